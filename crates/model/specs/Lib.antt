@@ -1,0 +1,15 @@
+pub mod Numbers
+pub mod Refusals
+pub mod Recording
+pub mod File
+pub mod Reading
+pub mod Walking
+pub mod Orders
+pub mod Vectors
+pub mod Passes
+pub mod Recorded
+pub mod Pairs
+pub mod Analysing
+pub mod Question
+pub mod Writing
+pub mod Promise

@@ -1,0 +1,144 @@
+-- A recording, the four rules, and the first faulty record (document 01, What an acceptable recording obeys).
+-- Assumes nothing.
+use Prim.Native.Nat.{ℕ, zero, suc}
+use mathlib.Core.Path.{_≡_}
+use mathlib.Core.Bool.{Bool, true, false, not, _&&_}
+use mathlib.Core.List.{List, [], _∷_}
+use lib.Dec.{ltb, eqb}
+use lib.ListN.{length, take, getD}
+use Rattle.model.specs.declared.Event.{Event}
+use Rattle.model.specs.declared.Counts.{Counts}
+use Rattle.model.specs.declared.Class.{Class}
+use Rattle.model.specs.declared.Refusal.{Refusal}
+use Rattle.model.specs.declared.Check.{Check}
+use Rattle.model.specs.Numbers.{count}
+use Rattle.model.specs.Refusals.{unless, andThen}
+
+-- a recording: how many tasks, semaphores and cells it names, and its events in file order
+pub record Recording : Type 0 where
+  pub counts : Counts
+  pub events : List Event
+
+-- N, T and the number of cells
+abbrev pub size : Recording → ℕ
+size E = length (E .events)
+
+abbrev pub tasks : Recording → ℕ
+tasks E = E .counts .tasks
+
+abbrev pub cells : Recording → ℕ
+cells E = E .counts .cells
+
+abbrev pub noEvent : Event
+noEvent = record { task = 0; kind = 0; object = 0 }
+
+-- event e is record e
+abbrev pub event : Recording → ℕ → Event
+event E e = getD (E .events) e noEvent
+
+abbrev pub taskOf : Recording → ℕ → ℕ
+taskOf E e = event E e .task
+
+abbrev pub kindOf : Recording → ℕ → ℕ
+kindOf E e = event E e .kind
+
+abbrev pub objectOf : Recording → ℕ → ℕ
+objectOf E e = event E e .object
+
+-- ---- kinds: 1 signal, 2 wait, 3 fork, 4 join, 5 read, 6 write
+
+abbrev pub ofTask : ℕ → Event → Bool
+ofTask t v = eqb (v .task) t
+
+-- an event of this kind on this object
+abbrev pub isOn : ℕ → ℕ → Event → Bool
+isOn k x v = eqb (v .kind) k && eqb (v .object) x
+
+abbrev pub isSignal : ℕ → Event → Bool
+isSignal s v = isOn 1 s v
+
+abbrev pub isWait : ℕ → Event → Bool
+isWait s v = isOn 2 s v
+
+abbrev pub isFork : ℕ → Event → Bool
+isFork t v = isOn 3 t v
+
+abbrev pub isJoin : ℕ → Event → Bool
+isJoin t v = isOn 4 t v
+
+-- ---- the four rules, for the event v after the events `before`
+
+abbrev pub implies : Bool → Bool → Bool
+implies true b = b
+implies false b = true
+
+-- a task that has been joined has no later record
+abbrev pub notJoined : List Event → Event → Bool
+notJoined before v = eqb (count (isJoin (v .task)) before) 0
+
+-- a fork names another task, not forked before and with no record before
+abbrev pub forkKept : List Event → Event → Bool
+forkKept before v =
+    implies (eqb (v .kind) 3)
+    (not (eqb (v .object) (v .task)) && eqb (count (isFork (v .object)) before) 0 && eqb (count (ofTask (v .object)) before) 0)
+
+-- a join names another task, forked before and not joined before
+abbrev pub joinKept : List Event → Event → Bool
+joinKept before v =
+    implies (eqb (v .kind) 4)
+    (not (eqb (v .object) (v .task)) && ltb 0 (count (isFork (v .object)) before) && eqb (count (isJoin (v .object)) before) 0)
+
+-- at a wait, the earlier signals on that semaphore outnumber the earlier waits on it
+unfoldable pub waitKept : List Event → Event → Bool
+waitKept before v = implies (eqb (v .kind) 2) (ltb (count (isWait (v .object)) before) (count (isSignal (v .object)) before))
+
+-- the first three rules
+unfoldable pub lifeKept : List Event → Event → Bool
+lifeKept before v = notJoined before v && forkKept before v && joinKept before v
+
+-- all four
+unfoldable pub obeys : List Event → Event → Bool
+obeys before v = lifeKept before v && waitKept before v
+
+-- ---- the first faulty record
+
+-- the table of kinds: what the object of each names
+abbrev pub classes : List Class
+classes = Class.Nothing ∷ Class.Semaphore ∷ Class.Semaphore ∷ Class.Task ∷ Class.Task ∷ Class.Cell ∷ Class.Cell ∷ []
+
+unfoldable pub classOf : ℕ → Class
+classOf k = getD classes k Class.Nothing
+
+-- how many names a class has
+abbrev pub namesOf : Counts → Class → ℕ
+namesOf c Class.Nothing = 0
+namesOf c Class.Semaphore = c .semaphores
+namesOf c Class.Task = c .tasks
+namesOf c Class.Cell = c .cells
+
+-- the kind is 1 to 6
+unfoldable pub knownKind : Event → Bool
+knownKind v = ltb 0 (v .kind) && ltb (v .kind) 7
+
+-- task and object are below their counts
+unfoldable pub named : Counts → Event → Bool
+named c v = ltb (v .task) (c .tasks) && ltb (v .object) (namesOf c (classOf (v .kind)))
+
+-- the check of the event v after the events `before`, whose number is that of the record
+unfoldable pub recordCheck : Counts → List Event → Event → Check
+recordCheck c before v =
+    let e = length before in
+    unless (knownKind v) (Refusal.Kind e) λ _.
+    unless (named c v) (Refusal.Name e) λ _.
+    unless (lifeKept before v) (Refusal.Life e) λ _.
+    unless (waitKept before v) (Refusal.Empty e) λ _.
+    Check.Passed
+
+-- the first faulty record among the first n
+unfoldable pub firstFault : Recording → ℕ → Check
+firstFault E zero = Check.Passed
+firstFault E (suc n) = andThen (firstFault E n) λ _. recordCheck (E .counts) (take n (E .events)) (event E n)
+
+-- an acceptable recording
+unfoldable pub Accepted : Recording → Type 0
+Accepted E = firstFault E (size E) ≡ Check.Passed

@@ -1,0 +1,68 @@
+-- The refusal table (document 01, Refusal table), and checks made in its order.
+-- Assumes nothing.
+use Prim.Native.Nat.{ℕ}
+use mathlib.Core.Bool.{Bool, true, false}
+use Rattle.model.specs.declared.Refusal.{Refusal}
+use Rattle.model.specs.declared.Check.{Check}
+
+-- No.
+abbrev pub numberOf : Refusal → ℕ
+numberOf Refusal.Short = 1
+numberOf Refusal.Edition = 2
+numberOf Refusal.Extent = 3
+numberOf Refusal.Count = 4
+numberOf (Refusal.Kind e) = 5
+numberOf (Refusal.Name e) = 6
+numberOf (Refusal.Life e) = 7
+numberOf (Refusal.Empty e) = 8
+numberOf Refusal.Work = 9
+numberOf (Refusal.List n) = 10
+numberOf Refusal.Event = 11
+numberOf Refusal.Out = 12
+
+-- the faulty record; 0 where no record is at fault
+abbrev pub recordOf : Refusal → ℕ
+recordOf Refusal.Short = 0
+recordOf Refusal.Edition = 0
+recordOf Refusal.Extent = 0
+recordOf Refusal.Count = 0
+recordOf (Refusal.Kind e) = e
+recordOf (Refusal.Name e) = e
+recordOf (Refusal.Life e) = e
+recordOf (Refusal.Empty e) = e
+recordOf Refusal.Work = 0
+recordOf (Refusal.List n) = 0
+recordOf Refusal.Event = 0
+recordOf Refusal.Out = 0
+
+-- the pairs needed, which 10 also returns
+abbrev pub pairsOf : Refusal → ℕ
+pairsOf Refusal.Short = 0
+pairsOf Refusal.Edition = 0
+pairsOf Refusal.Extent = 0
+pairsOf Refusal.Count = 0
+pairsOf (Refusal.Kind e) = 0
+pairsOf (Refusal.Name e) = 0
+pairsOf (Refusal.Life e) = 0
+pairsOf (Refusal.Empty e) = 0
+pairsOf Refusal.Work = 0
+pairsOf (Refusal.List n) = n
+pairsOf Refusal.Event = 0
+pairsOf Refusal.Out = 0
+
+-- Tests are made in the table's order, and what follows a test is computed only where it passes.
+
+-- unless the test passes, this refusal; else what follows
+abbrev pub unless : Bool → Refusal → (Unit {0} → Check) → Check
+unless true r rest = rest tt
+unless false r rest = Check.Failed r
+
+-- what follows a check that passes
+abbrev pub andThen : Check → (Unit {0} → Check) → Check
+andThen Check.Passed rest = rest tt
+andThen (Check.Failed r) rest = Check.Failed r
+
+-- what a check that passes changes, or what is kept after a refusal
+abbrev pub after : {A : Type 0} → Check → (Unit {0} → A) → A → A
+after Check.Passed changed kept = changed tt
+after (Check.Failed r) changed kept = kept

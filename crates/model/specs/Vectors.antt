@@ -1,0 +1,38 @@
+-- Positions, vectors, and what they order (document 01, Passes and safe vectors).
+-- Assumes nothing.
+use Prim.Native.Nat.{ℕ, suc}
+use mathlib.Core.Bool.{Bool, cond, not, _&&_}
+use mathlib.Core.List.{List, [], _∷_, _++_}
+use lib.Dec.{leb, eqb}
+use lib.ListN.{getD}
+use Rattle.model.specs.Numbers.{tally, listOf}
+use Rattle.model.specs.Recording.{Recording, size, tasks, event, taskOf, ofTask}
+
+-- the position of e: its place among its task's records, from 1
+unfoldable pub position : Recording → ℕ → ℕ
+position E e = tally (λ a. ofTask (taskOf E e) (event E a)) (suc e)
+
+-- one vector for each event, and in it one number for each task
+abbrev pub Vectors : Type 0
+Vectors = List (List ℕ)
+
+-- the number for task t in the vector of event e
+abbrev pub number : Vectors → ℕ → ℕ → ℕ
+number X e t = getD (getD X e []) t 0
+
+-- the vectors as work numbers, event by event
+unfoldable pub flat : Vectors → List ℕ
+flat [] = []
+flat (r ∷ X) = r ++ flat X
+
+-- at the start an event's own task's number is its position and the others are 0
+unfoldable pub start : Recording → Vectors
+start E = listOf (λ e. listOf (λ t. cond (eqb t (taskOf E e)) (position E e) 0) (tasks E)) (size E)
+
+-- event a is ordered before another event b: b's number for a's task is at least a's position
+unfoldable pub ordered : Recording → Vectors → ℕ → ℕ → Bool
+ordered E X a b = not (eqb a b) && leb (position E a) (number X b (taskOf E a))
+
+-- neither event is ordered before the other
+unfoldable pub unordered : Recording → Vectors → ℕ → ℕ → Bool
+unordered E X a b = not (ordered E X a b) && not (ordered E X b a)

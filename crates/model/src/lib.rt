@@ -1,0 +1,186 @@
+// The plain types of the trace analyser, and the numbers that stand for its refusals and answers.
+// What a recording means, what analysing answers and what is promised is defined in specs/.
+ghost use mathlib.Core.Path.{_≡_};
+ghost use Rattle.model.specs.Refusals.{numberOf, recordOf, pairsOf};
+ghost use Rattle.model.specs.Question.{relationNumber};
+
+// An event is one record of a recording.
+pub struct Event {
+    pub task: u8,
+    pub kind: u8,
+    pub object: u16,
+}
+
+// How many tasks, semaphores and cells a recording names.
+pub struct Counts {
+    pub tasks: u16,
+    pub semaphores: u16,
+    pub cells: u16,
+}
+
+// The trailer of a file: where its first record starts, how many records it has, and its counts.
+pub struct Header {
+    pub start: usize,
+    pub records: usize,
+    pub counts: Counts,
+}
+
+// What an object names.
+pub enum Class {
+    Nothing,
+    Semaphore,
+    Task,
+    Cell,
+}
+
+// An event that was looked for.
+pub enum Found {
+    At(usize),
+    Nothing,
+}
+
+// A refusal, by its word in the table: with the faulty record, or with the pairs that the list should hold.
+pub enum Refusal {
+    Short,
+    Edition,
+    Extent,
+    Count,
+    Kind(usize),
+    Name(usize),
+    Life(usize),
+    Empty(usize),
+    Work,
+    List(usize),
+    Event,
+    Out,
+}
+
+// The outcome of a check.
+pub enum Check {
+    Passed,
+    Failed(Refusal),
+}
+
+// The answer to reading a file.
+pub enum Reading {
+    Accepted(Header),
+    Refused(Refusal),
+}
+
+// What a step of a walk yields.
+pub enum Item {
+    Event(Event),
+    End,
+}
+
+// A step of a walk: what it yields, and the number of the next record.
+pub struct Step {
+    pub item: Item,
+    pub next: usize,
+}
+
+// The answer to analysing a file.
+pub enum Analysis {
+    Done {
+        passes: u32,
+        settled: bool,
+        pairs: usize,
+    },
+    Refused(Refusal),
+}
+
+// How two events a and b stand to each other.
+pub enum Relation {
+    First,
+    Second,
+    Open,
+    Sure,
+}
+
+// The answer to a question about two events.
+pub enum Answer {
+    Related(Relation),
+    Refused(Refusal),
+}
+
+// The answer to writing a file.
+pub enum Written {
+    Length(usize),
+    Refused(Refusal),
+}
+
+impl Refusal {
+    // The number of the refusal in the table.
+    pub fn number(self) -> u8
+        ensures { λ r. ⌜ r ≡ numberOf self ⌝ }
+    {
+        match self {
+            Refusal::Short => 1,
+            Refusal::Edition => 2,
+            Refusal::Extent => 3,
+            Refusal::Count => 4,
+            Refusal::Kind(_) => 5,
+            Refusal::Name(_) => 6,
+            Refusal::Life(_) => 7,
+            Refusal::Empty(_) => 8,
+            Refusal::Work => 9,
+            Refusal::List(_) => 10,
+            Refusal::Event => 11,
+            Refusal::Out => 12,
+        }
+    }
+
+    // The faulty record; 0 where no record is at fault.
+    pub fn record(self) -> usize
+        ensures { λ r. ⌜ r ≡ recordOf self ⌝ }
+    {
+        match self {
+            Refusal::Kind(e) => e,
+            Refusal::Name(e) => e,
+            Refusal::Life(e) => e,
+            Refusal::Empty(e) => e,
+            Refusal::Short => 0,
+            Refusal::Edition => 0,
+            Refusal::Extent => 0,
+            Refusal::Count => 0,
+            Refusal::Work => 0,
+            Refusal::List(_) => 0,
+            Refusal::Event => 0,
+            Refusal::Out => 0,
+        }
+    }
+
+    // The pairs that a list should have held; 0 for another refusal.
+    pub fn pairs(self) -> usize
+        ensures { λ r. ⌜ r ≡ pairsOf self ⌝ }
+    {
+        match self {
+            Refusal::List(n) => n,
+            Refusal::Short => 0,
+            Refusal::Edition => 0,
+            Refusal::Extent => 0,
+            Refusal::Count => 0,
+            Refusal::Kind(_) => 0,
+            Refusal::Name(_) => 0,
+            Refusal::Life(_) => 0,
+            Refusal::Empty(_) => 0,
+            Refusal::Work => 0,
+            Refusal::Event => 0,
+            Refusal::Out => 0,
+        }
+    }
+}
+
+impl Relation {
+    // The number of the answer: 1 a first, 2 b first, 3 open, 4 sure.
+    pub fn number(self) -> u8
+        ensures { λ r. ⌜ r ≡ relationNumber self ⌝ }
+    {
+        match self {
+            Relation::First => 1,
+            Relation::Second => 2,
+            Relation::Open => 3,
+            Relation::Sure => 4,
+        }
+    }
+}
