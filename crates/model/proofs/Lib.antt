@@ -1,0 +1,9 @@
+pub mod Tests
+pub mod Sum
+pub mod Counting
+pub mod Least
+pub mod Lists
+pub mod Place
+pub mod Picked
+pub mod Rules
+pub mod Sources

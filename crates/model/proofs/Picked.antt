@@ -1,0 +1,130 @@
+-- The numbers that pass a test, in order: how often each stands there, and where.
+-- Assumes nothing.
+use Prim.Native.Nat.{ℕ, zero, suc, _+_, _<_}
+use mathlib.Core.Path.{_≡_, refl, sym, ap, ap₂, _∙_}
+use mathlib.Core.Bool.{Bool, true, false, cond, not, _&&_}
+use mathlib.Core.List.{List, [], _∷_, _++_}
+use native.Mathlib.Nat.{not-suc-le-zero, zero-add, add-zero}
+use native.Mathlib.Omega.{arith}
+use lib.Dec.{ltb, eqb}
+use lib.ListN.{length}
+use Rattle.model.specs.Numbers.{bit, count, each, picked}
+use Rattle.model.specs.Orders.{place, occurrences}
+use Rattle.model.proofs.Tests.{cases, clash, to-not, both, and-true, and-fails, bit-true, bit-false, tests, bits, last-or-lower, eqb-true, lt-ltb, le-ltb}
+use Rattle.model.proofs.Counting.{count-append}
+use Rattle.model.proofs.Place.{place-lt, place-here, place-there}
+
+place-left : (e : ℕ) (l m : List ℕ) → 0 < occurrences e l → place (l ++ m) e ≡ place l e
+unfolding count
+place-left e [] m h = absurd (not-suc-le-zero h)
+place-left e (x ∷ l) m h =
+    cases (eqb e x) (λ t. place-here e x (l ++ m) t ∙ sym (place-here e x l t))
+    (λ t. place-there e x (l ++ m) t ∙ ap suc (place-left e l m (omega bits)) ∙ sym (place-there e x l t))
+
+place-right : (e : ℕ) (l m : List ℕ) → occurrences e l ≡ 0 → place (l ++ m) e ≡ length l + place m e
+unfolding count
+place-right e [] m h = sym (zero-add (place m e))
+place-right e (x ∷ l) m h =
+    cases (eqb e x) (λ t. absurd (omega bits))
+    (λ t. let ih = place-right e l m (omega bits) in let q = place-there e x (l ++ m) t in omega arith)
+
+module _ (p : ℕ → Bool) where
+  one : ℕ → List ℕ
+  one e = cond (p e) (e ∷ []) []
+
+  picked-suc : (n : ℕ) → picked p (suc n) ≡ picked p n ++ one n
+  unfolding picked each one
+  picked-suc n = refl
+
+  one-occurs : (e n : ℕ) → occurrences e (one n) ≡ bit (p n && eqb e n)
+  unfolding count one
+  one-occurs e n = go (p n)
+    where
+      go : (b : Bool) → occurrences e (cond b (n ∷ []) []) ≡ bit (b && eqb e n)
+      go true = add-zero (bit (eqb e n))
+      go false = refl
+
+  pub picked-occurs : (e n : ℕ) → occurrences e (picked p n) ≡ bit (p e && ltb e n)
+  unfolding picked each count
+  picked-occurs e zero = sym (bit-false (and-fails (p e) (le-ltb e 0 (omega arith))))
+  picked-occurs e (suc n) =
+      let ih = picked-occurs e n in
+      let s = ap (count (eqb e)) (picked-suc n) ∙ count-append (eqb e) (picked p n) (one n) in
+      let o = one-occurs e n in
+      cases (eqb e n)
+      (λ t.
+      let d = eqb-true e n t in
+      let a = bit-false (and-fails (p e) (le-ltb e n (omega arith))) in
+      let b : bit (p n && eqb e n) ≡ bit (p e) = rw t (ap bit (and-true (p n) ∙ ap p (sym d))) in
+      let c : bit (p e && ltb e (suc n)) ≡ bit (p e) = rw (lt-ltb e (suc n) (omega arith)) (ap bit (and-true (p e))) in
+      omega arith)
+      (λ t.
+      let b = bit-false (and-fails (p n) t) in
+      let c : bit (p e && ltb e n) ≡ bit (p e && ltb e (suc n)) = ap (λ (x : Bool). bit (p e && x)) (beyond e n t) in
+      omega arith)
+    where
+      beyond : (e n : ℕ) → eqb e n ≡ false → ltb e n ≡ ltb e (suc n)
+      beyond e n t = cases (ltb e n) (λ q. q ∙ sym (lt-ltb e (suc n) (omega tests))) (λ q. q ∙ sym (le-ltb e (suc n) (omega tests)))
+
+  picked-has : (e n : ℕ) → e < n → p e ≡ true → 0 < occurrences e (picked p n)
+  picked-has e n l t = let a = picked-occurs e n in let b = bit-true (both t (lt-ltb e n l)) in omega arith
+
+  -- they stand in order
+  pub picked-rises : (a b n : ℕ) → a < b → b < n → p a ≡ true → p b ≡ true → place (picked p n) a < place (picked p n) b
+  picked-rises a b zero k l s t = absurd (not-suc-le-zero l)
+  picked-rises a b (suc n) k l s t =
+      last-or-lower l
+      (λ d.
+      let none : occurrences b (picked p n) ≡ 0 = picked-occurs b n ∙ bit-false (and-fails (p b) (le-ltb b n (omega arith))) in
+      let r = ap (λ (l : List ℕ). place l b) (picked-suc n) ∙ place-right b (picked p n) (one n) none in
+      let x = left a (omega arith) s in
+      let y = place-lt a (picked p n) (picked-has a n (omega arith) s) in
+      omega arith)
+      (λ m. let h = picked-rises a b n k m s t in let x = left a (omega arith) s in let y = left b m t in omega arith)
+    where
+      left : (e : ℕ) → e < n → p e ≡ true → place (picked p (suc n)) e ≡ place (picked p n) e
+      left e m q = ap (λ (l : List ℕ). place l e) (picked-suc n) ∙ place-left e (picked p n) (one n) (picked-has e n m q)
+
+-- ---- those that pass first, then the others
+
+module _ (p : ℕ → Bool) (n : ℕ) where
+  abbrev parted : List ℕ
+  parted = picked p n ++ picked (λ e. not (p e)) n
+
+  pub parted-once : (e : ℕ) → occurrences e parted ≡ bit (ltb e n)
+  parted-once e =
+      count-append (eqb e) (picked p n) (picked (λ e. not (p e)) n)
+      ∙ ap₂ (λ (a b : ℕ). a + b) (picked-occurs p e n) (picked-occurs (λ e. not (p e)) e n) ∙ term (p e) (ltb e n)
+    where
+      term : (a b : Bool) → bit (a && b) + bit (not a && b) ≡ bit b
+      term true b = add-zero (bit b)
+      term false b = zero-add (bit b)
+
+  left-place : (a : ℕ) → a < n → p a ≡ true → place parted a ≡ place (picked p n) a
+  left-place a l t = place-left a (picked p n) (picked (λ e. not (p e)) n) (picked-has p a n l t)
+
+  right-place : (a : ℕ) → p a ≡ false → place parted a ≡ length (picked p n) + place (picked (λ e. not (p e)) n) a
+  right-place a t = place-right a (picked p n) (picked (λ e. not (p e)) n) (picked-occurs p a n ∙ ap (λ (b : Bool). bit (b && ltb a n)) t)
+
+  pub parted-first : (a b : ℕ) → a < n → p a ≡ true → p b ≡ false → place parted a < place parted b
+  parted-first a b l s t =
+      let x = left-place a l s in
+      let y = right-place b t in
+      let z = place-lt a (picked p n) (picked-has p a n l s) in omega arith
+
+  pub parted-rises : (a b : ℕ) → a < b → b < n → (p b ≡ true → p a ≡ true) → place parted a < place parted b
+  parted-rises a b k l h =
+      cases (p a)
+      (λ s.
+      cases (p b)
+      (λ t.
+      let x = left-place a (omega arith) s in
+      let y = left-place b l t in
+      let z = picked-rises p a b n k l s t in omega arith)
+      (λ t. parted-first a b (omega arith) s t))
+      (λ s.
+      cases (p b) (λ t. clash (h t) s)
+      (λ t.
+      let x = right-place a s in
+      let y = right-place b t in
+      let z = picked-rises (λ e. not (p e)) a b n k l (to-not s) (to-not t) in omega arith))

@@ -1,0 +1,142 @@
+-- Lists in which each number below n stands once: places, and counts over their first elements as tallies.
+-- Assumes nothing.
+use Prim.Native.Nat.{ℕ, zero, suc, _+_, _≤_, _<_, zero-le}
+use mathlib.Core.Path.{_≡_, refl, sym, ap, _∙_}
+use mathlib.Core.Bool.{Bool, true, false, cond, _&&_}
+use mathlib.Core.List.{List, [], _∷_, map}
+use native.Mathlib.Nat.{not-suc-le-zero, le-of-suc-le-suc}
+use native.Mathlib.Omega.{arith}
+use lib.Dec.{ltb, eqb, leb·suc-suc}
+use lib.ListN.{length, getD, take}
+use Rattle.model.specs.Numbers.{bit, sum, tally, count}
+use Rattle.model.specs.Orders.{place, occurrences}
+use Rattle.model.proofs.Tests.{cases, bits, bit-true, bit-false, bit-pos, eqb-true, eq-eqb, lt-ltb, le-ltb, ltb-true, ltb-false}
+use Rattle.model.proofs.Sum.{sum-ext, sum-add, sum-single, sum-nothing}
+
+pub take-map : {A B : Type 0} (g : A → B) (i : ℕ) (l : List A) → take i (map g l) ≡ map g (take i l)
+take-map g zero l = refl
+take-map g (suc i) [] = refl
+take-map g (suc i) (x ∷ l) = ap (λ (m : List _). g x ∷ m) (take-map g i l)
+
+pub at-map : {A B : Type 0} (g : A → B) (i : ℕ) (l : List A) (a : A) (b : B) → i < length l → getD (map g l) i b ≡ g (getD l i a)
+at-map g i [] a b h = absurd (not-suc-le-zero h)
+at-map g zero (x ∷ l) a b h = refl
+at-map g (suc i) (x ∷ l) a b h = at-map g i l a b (le-of-suc-le-suc h)
+
+-- ---- places
+
+pub place-here : (e x : ℕ) (o : List ℕ) → eqb e x ≡ true → place (x ∷ o) e ≡ 0
+unfolding place
+place-here e x o t = rw t
+
+pub place-there : (e x : ℕ) (o : List ℕ) → eqb e x ≡ false → place (x ∷ o) e ≡ suc (place o e)
+unfolding place
+place-there e x o t = rw t
+
+take-none : (e i : ℕ) (o : List ℕ) → occurrences e o ≡ 0 → occurrences e (take i o) ≡ 0
+unfolding count
+take-none e zero o h = refl
+take-none e (suc i) [] h = refl
+take-none e (suc i) (x ∷ o) h = let k = take-none e i o (omega arith) in omega arith
+
+-- where e stands once it is among the first i exactly if its place is below i
+take-once : (e i : ℕ) (o : List ℕ) → occurrences e o ≡ 1 → occurrences e (take i o) ≡ bit (ltb (place o e) i)
+unfolding count
+take-once e zero o h = sym (bit-false (le-ltb (place o e) 0 zero-le))
+take-once e (suc i) [] h = absurd (omega arith)
+take-once e (suc i) (x ∷ o) h =
+    cases (eqb e x)
+    (λ t.
+    let b = take-none e i o (omega bits) in
+    let p = place-here e x o t in
+    let c = bit-true (lt-ltb (place (x ∷ o) e) (suc i) (omega arith)) in omega bits)
+    (λ t.
+    let b = take-once e i o (omega bits) in
+    let p : ltb (place (x ∷ o) e) (suc i) ≡ ltb (place o e) i = rw (place-there e x o t) (leb·suc-suc (suc (place o e)) i) in
+    let c = ap bit p in omega bits)
+
+pub place-lt : (e : ℕ) (o : List ℕ) → 0 < occurrences e o → place o e < length o
+unfolding count
+place-lt e [] h = absurd (not-suc-le-zero h)
+place-lt e (x ∷ o) h =
+    cases (eqb e x) (λ t. let p = place-here e x o t in omega arith)
+    (λ t. let p = place-there e x o t in let k = place-lt e o (omega bits) in omega arith)
+
+pub at-place : (e : ℕ) (o : List ℕ) → 0 < occurrences e o → getD o (place o e) 0 ≡ e
+unfolding count
+at-place e [] h = absurd (not-suc-le-zero h)
+at-place e (x ∷ o) h =
+    cases (eqb e x) (λ t. rw (place-here e x o t) (sym (eqb-true e x t))) (λ t. rw (place-there e x o t) (at-place e o (omega bits)))
+
+at-occurs : (o : List ℕ) (i : ℕ) → i < length o → 0 < occurrences (getD o i 0) o
+unfolding count
+at-occurs [] i h = absurd (not-suc-le-zero h)
+at-occurs (x ∷ o) zero h = let b = bit-true (eq-eqb x x refl) in omega arith
+at-occurs (x ∷ o) (suc i) h = let k = at-occurs o i (le-of-suc-le-suc h) in omega arith
+
+-- the place of the element at i, where it stands once
+place-at : (o : List ℕ) (i : ℕ) → i < length o → occurrences (getD o i 0) o ≡ 1 → place o (getD o i 0) ≡ i
+unfolding count
+place-at [] i h k = absurd (not-suc-le-zero h)
+place-at (x ∷ o) zero h k = place-here x x o (eq-eqb x x refl)
+place-at (x ∷ o) (suc i) h k =
+    cases (eqb (getD o i 0) x) (λ t. let b = at-occurs o i (le-of-suc-le-suc h) in absurd (omega bits))
+    (λ t. place-there (getD o i 0) x o t ∙ ap suc (place-at o i (le-of-suc-le-suc h) (omega bits)))
+
+-- ---- counts
+
+-- a count over a list of numbers below n, number by number
+count-by : (p : ℕ → Bool) (n : ℕ) (l : List ℕ) → ((e : ℕ) → n ≤ e → occurrences e l ≡ 0)
+    → count p l ≡ sum (λ e. cond (p e) (occurrences e l) 0) n
+unfolding count
+count-by p n [] h = sym (sum-nothing (λ e. cond (p e) 0 0) n (λ e l. same (p e)))
+  where
+    same : (b : Bool) → _≡_ {A = ℕ} (cond b 0 0) 0
+    same true = refl
+    same false = refl
+count-by p n (x ∷ l) h =
+    let ih = count-by p n l (λ e k. let z = h e k in omega arith) in
+    let one = sum-single (λ e. bit (p e)) x n inside in
+    let s = sum-add (λ e. cond (eqb e x) (bit (p e)) 0) (λ e. cond (p e) (occurrences e l) 0) n in
+    let t = sum-ext (λ e. cond (eqb e x) (bit (p e)) 0 + cond (p e) (occurrences e l) 0) (λ e. cond (p e) (occurrences e (x ∷ l)) 0) n
+    (λ e k. term (p e) (eqb e x) (occurrences e l)) in
+    omega arith
+  where
+    inside : x < n
+    inside =
+        cases (ltb x n) (λ t. ltb-true x n t)
+        (λ t. let z = h x (ltb-false x n t) in let b = bit-true (eq-eqb x x refl) in absurd (omega arith))
+
+    term : (a b : Bool) (m : ℕ) → cond b (bit a) 0 + cond a m 0 ≡ cond a (bit b + m) 0
+    term true true m = refl
+    term true false m = refl
+    term false true m = refl
+    term false false m = refl
+
+module _ (n : ℕ) (o : List ℕ) (once : (e : ℕ) → occurrences e o ≡ bit (ltb e n)) where
+  pub stands : (e : ℕ) → e < n → occurrences e o ≡ 1
+  stands e l = once e ∙ bit-true (lt-ltb e n l)
+
+  -- a count over the first i elements
+  pub count-take : (p : ℕ → Bool) (i : ℕ) → count p (take i o) ≡ tally (λ e. p e && ltb (place o e) i) n
+  count-take p i =
+      count-by p n (take i o) (λ e l. take-none e i o (once e ∙ bit-false (le-ltb e n l)))
+      ∙ sum-ext (λ e. cond (p e) (occurrences e (take i o)) 0) (λ e. bit (p e && ltb (place o e) i)) n
+      (λ e l. ap (λ (m : ℕ). cond (p e) m 0) (take-once e i o (stands e l)) ∙ term (p e) (ltb (place o e) i))
+    where
+      term : (a b : Bool) → cond a (bit b) 0 ≡ bit (a && b)
+      term true b = refl
+      term false b = refl
+
+  pub place-inj : (a b : ℕ) → a < n → b < n → place o a ≡ place o b → a ≡ b
+  place-inj a b k l e =
+      let s = stands a k in
+      let t = stands b l in
+      sym (at-place a o (omega arith)) ∙ ap (λ (i : ℕ). getD o i 0) e ∙ at-place b o (omega arith)
+
+  -- each element is below n, and its place is where it stands
+  pub element : (i : ℕ) → i < length o → (getD o i 0 < n) × (place o (getD o i 0) ≡ i)
+  element i l =
+      let occurs = at-occurs o i l in
+      let inside = ltb-true (getD o i 0) n (bit-pos _ (let z = once (getD o i 0) in omega arith)) in
+      (inside, place-at o i l (stands (getD o i 0) inside))
