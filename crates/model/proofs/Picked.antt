@@ -3,16 +3,21 @@
 use Prim.Native.Nat.{ℕ, zero, suc, _+_, _<_}
 use mathlib.Core.Path.{_≡_, refl, sym, ap, ap₂, _∙_}
 use mathlib.Core.Bool.{Bool, true, false, cond, not, _&&_}
-use mathlib.Core.List.{List, [], _∷_, _++_}
+use mathlib.Core.List.{List, [], _∷_, _++_, List·Memᴰ, List·Memᴰ·head, List·Memᴰ·tail}
 use native.Mathlib.Nat.{not-suc-le-zero, zero-add, add-zero}
 use native.Mathlib.Omega.{arith}
 use lib.Dec.{ltb, eqb}
 use lib.ListN.{length}
-use Rattle.model.specs.Numbers.{bit, count, each, picked}
+use Rattle.model.specs.Numbers.{bit, sum, tally, count, each, picked}
 use Rattle.model.specs.Orders.{place, occurrences}
-use Rattle.model.proofs.Tests.{cases, clash, to-not, both, and-true, and-fails, bit-true, bit-false, tests, bits, last-or-lower, eqb-true, lt-ltb, le-ltb}
+use Rattle.model.proofs.Tests.{cases, clash, to-not, both, and-true, and-fails, bit-true, bit-false, bit-pos, first, second, tests, bits, last-or-lower, eqb-true, eq-eqb, lt-ltb, le-ltb, ltb-true}
 use Rattle.model.proofs.Counting.{count-append}
 use Rattle.model.proofs.Place.{place-lt, place-here, place-there}
+
+mem-occurs : (e : ℕ) (l : List ℕ) → List·Memᴰ e l → 0 < occurrences e l
+unfolding count
+mem-occurs e (x ∷ l) (List·Memᴰ·head q) = let b = bit-true (eq-eqb e x q) in omega arith
+mem-occurs e (x ∷ l) (List·Memᴰ·tail m) = let h = mem-occurs e l m in omega arith
 
 place-left : (e : ℕ) (l m : List ℕ) → 0 < occurrences e l → place (l ++ m) e ≡ place l e
 unfolding count
@@ -84,6 +89,25 @@ module _ (p : ℕ → Bool) where
     where
       left : (e : ℕ) → e < n → p e ≡ true → place (picked p (suc n)) e ≡ place (picked p n) e
       left e m q = ap (λ (l : List ℕ). place l e) (picked-suc n) ∙ place-left e (picked p n) (one n) (picked-has e n m q)
+
+  pub picked-mem : (e n : ℕ) → List·Memᴰ e (picked p n) → (e < n) × (p e ≡ true)
+  picked-mem e n m =
+      let o = picked-occurs e n in
+      let h = mem-occurs e (picked p n) m in
+      let t = bit-pos (p e && ltb e n) (omega arith) in
+      (ltb-true e n (second (p e) (ltb e n) t), first (p e) (ltb e n) t)
+
+  -- a count over them is a tally
+  pub count-picked : (q : ℕ → Bool) (n : ℕ) → count q (picked p n) ≡ tally (λ e. p e && q e) n
+  unfolding picked each sum count one
+  count-picked q zero = refl
+  count-picked q (suc n) =
+      ap (count q) (picked-suc n) ∙ count-append q (picked p n) (one n)
+      ∙ ap₂ (λ (a b : ℕ). a + b) (count-picked q n) (last (p n))
+    where
+      last : (b : Bool) → count q (cond b (n ∷ []) []) ≡ bit (b && q n)
+      last true = add-zero (bit (q n))
+      last false = refl
 
 -- ---- those that pass first, then the others
 
