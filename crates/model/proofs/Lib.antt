@@ -13,3 +13,5 @@ pub mod FileOrder
 pub mod Sound
 pub mod Climb
 pub mod Settle
+pub mod Recorded
+pub mod Forward

@@ -1,17 +1,19 @@
 -- The numbers that pass a test, in order: how often each stands there, and where.
 -- Assumes nothing.
-use Prim.Native.Nat.{ℕ, zero, suc, _+_, _<_}
-use mathlib.Core.Path.{_≡_, refl, sym, ap, ap₂, _∙_}
+use Prim.Native.Nat.{ℕ, zero, suc, _+_, _≤_, _<_}
+use mathlib.Core.Path.{_≡_, refl, sym, ap, ap₂, subst, _∙_}
 use mathlib.Core.Bool.{Bool, true, false, cond, not, _&&_}
 use mathlib.Core.List.{List, [], _∷_, _++_, List·Memᴰ, List·Memᴰ·head, List·Memᴰ·tail}
 use native.Mathlib.Nat.{not-suc-le-zero, zero-add, add-zero}
 use native.Mathlib.Omega.{arith}
 use lib.Dec.{ltb, eqb}
-use lib.ListN.{length}
-use Rattle.model.specs.Numbers.{bit, sum, tally, count, each, picked}
+use lib.ListN.{length, length-append}
+use Rattle.model.specs.declared.Found.{Found}
+use Rattle.model.specs.Numbers.{bit, sum, tally, count, each, picked, nth}
 use Rattle.model.specs.Orders.{place, occurrences}
 use Rattle.model.proofs.Tests.{cases, clash, to-not, both, and-true, and-fails, bit-true, bit-false, bit-pos, first, second, tests, bits, last-or-lower, eqb-true, eq-eqb, lt-ltb, le-ltb, ltb-true}
 use Rattle.model.proofs.Counting.{count-append}
+use Rattle.model.proofs.Sum.{ranked, rank-rises}
 use Rattle.model.proofs.Place.{place-lt, place-here, place-there}
 
 mem-occurs : (e : ℕ) (l : List ℕ) → List·Memᴰ e l → 0 < occurrences e l
@@ -32,6 +34,25 @@ place-right e [] m h = sym (zero-add (place m e))
 place-right e (x ∷ l) m h =
     cases (eqb e x) (λ t. absurd (omega bits))
     (λ t. let ih = place-right e l m (omega bits) in let q = place-there e x (l ++ m) t in omega arith)
+
+-- ---- the element at a place
+
+nth-left : (l m : List ℕ) (k : ℕ) → k < length l → nth (l ++ m) k ≡ nth l k
+unfolding nth
+nth-left [] m k h = absurd (not-suc-le-zero h)
+nth-left (x ∷ l) m zero h = refl
+nth-left (x ∷ l) m (suc k) h = nth-left l m k (omega arith)
+
+nth-at : (l : List ℕ) (x : ℕ) → nth (l ++ x ∷ []) (length l) ≡ Found.At x
+unfolding nth
+nth-at [] x = refl
+nth-at (y ∷ l) x = nth-at l x
+
+nth-past : (l : List ℕ) (k : ℕ) → length l ≤ k → nth l k ≡ Found.Nothing
+unfolding nth
+nth-past [] k h = refl
+nth-past (x ∷ l) zero h = absurd (omega arith)
+nth-past (x ∷ l) (suc k) h = nth-past l k (omega arith)
 
 module _ (p : ℕ → Bool) where
   one : ℕ → List ℕ
@@ -108,6 +129,51 @@ module _ (p : ℕ → Bool) where
       last : (b : Bool) → count q (cond b (n ∷ []) []) ≡ bit (b && q n)
       last true = add-zero (bit (q n))
       last false = refl
+
+  picked-length : (n : ℕ) → length (picked p n) ≡ tally p n
+  unfolding picked each sum one
+  picked-length zero = refl
+  picked-length (suc n) =
+      ap length (picked-suc n) ∙ length-append (picked p n) (one n) ∙ ap₂ (λ (a b : ℕ). a + b) (picked-length n) (last (p n))
+    where
+      last : (b : Bool) → length (cond b (n ∷ []) []) ≡ bit b
+      last true = refl
+      last false = refl
+
+  -- the number of rank k stands at place k
+  nth-rank : (n s : ℕ) → s < n → p s ≡ true → nth (picked p n) (tally p s) ≡ Found.At s
+  unfolding one
+  nth-rank zero s l t = absurd (not-suc-le-zero l)
+  nth-rank (suc n) s l t =
+      last-or-lower l
+      (λ d.
+      let here : one n ≡ n ∷ [] = rw (ap p (sym d) ∙ t) in
+      ap (λ (m : List ℕ). nth m (tally p s)) (picked-suc n ∙ ap (λ (m : List ℕ). picked p n ++ m) here)
+      ∙ ap (nth (picked p n ++ n ∷ [])) (ap (tally p) d ∙ sym (picked-length n))
+      ∙ nth-at (picked p n) n ∙ ap (λ (x : ℕ). Found.At x) (sym d))
+      (λ k.
+      let r = rank-rises p s n k t in
+      let z = picked-length n in
+      ap (λ (m : List ℕ). nth m (tally p s)) (picked-suc n) ∙ nth-left (picked p n) (one n) (tally p s) (omega arith) ∙ nth-rank n s k t)
+
+  -- what stands at place k passes, and k that pass are below it
+  pub nth-of : (n k x : ℕ) → nth (picked p n) k ≡ Found.At x → (x < n) × (p x ≡ true) × (tally p x ≡ k)
+  nth-of n k x h =
+      cases (ltb k (tally p n))
+      (λ t.
+      let (s, l, q, r) = ranked p n k (ltb-true k (tally p n) t) in
+      let same : s ≡ x = at-inj (sym (nth-rank n s l q) ∙ ap (nth (picked p n)) r ∙ h) in
+      (omega arith, subst (λ (y : ℕ). p y ≡ true) same q, subst (λ (y : ℕ). tally p y ≡ k) same r))
+      (λ t. let z = picked-length n in at-nothing (sym h ∙ nth-past (picked p n) k (omega tests)))
+    where
+      at-inj : {a b : ℕ} → Found.At a ≡ Found.At b → a ≡ b
+      at-inj e = cc
+
+      at-nothing : {X : Type 0} → Found.At x ≡ Found.Nothing → X
+      at-nothing e = let z : _≡_ {A = ℕ} 0 1 = cc in absurd (omega arith)
+
+  pub nth-found : (n k : ℕ) → k < tally p n → (x : ℕ) × (nth (picked p n) k ≡ Found.At x)
+  nth-found n k h = let (s, l, q, r) = ranked p n k h in (s, sym (ap (nth (picked p n)) r) ∙ nth-rank n s l q)
 
 -- ---- those that pass first, then the others
 
