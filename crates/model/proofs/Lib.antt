@@ -15,3 +15,6 @@ pub mod Climb
 pub mod Settle
 pub mod Recorded
 pub mod Forward
+pub mod Listed
+pub mod Files
+pub mod Promise
