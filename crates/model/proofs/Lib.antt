@@ -18,3 +18,4 @@ pub mod Forward
 pub mod Listed
 pub mod Files
 pub mod Promise
+pub mod Starred
