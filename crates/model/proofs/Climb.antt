@@ -3,7 +3,7 @@
 use Prim.Native.Nat.{ℕ, zero, suc, _≤_, _<_, max, zero-le}
 use mathlib.Core.Path.{_≡_, refl, sym, ap, subst, _∙_}
 use mathlib.Core.Bool.{true, false, cond}
-use mathlib.Core.List.{List, [], _∷_, List·Memᴰ·head}
+use mathlib.Core.List.{List, [], _∷_, List·Memᴰ, List·Memᴰ·head}
 use native.Mathlib.Nat.{le-refl, le-trans, le-of-eq, le-max-left}
 use native.Mathlib.Decide.{le-ind}
 use native.Mathlib.Omega.{arith}
@@ -78,7 +78,7 @@ module _ (E : Recording) where
   -- ---- a pass never lowers a number
 
   -- beyond the (tasks E) numbers there is nothing
-  beyond : (X : Vectors) (e t : ℕ) → Shape X → e < size E → (tasks E) ≤ t → number X e t ≡ 0
+  pub beyond : (X : Vectors) (e t : ℕ) → Shape X → e < size E → (tasks E) ≤ t → number X e t ≡ 0
   beyond X e t s l h = List·getD-eq-default (getD X e []) 0 (let r = s .row e l in omega arith)
 
   pub gathered-at : (X : Vectors) (from : List ℕ) (e t : ℕ) → t < (tasks E) → getD (gathered E X from e) t 0 ≡ largest (λ s. number X s t) (e ∷ from)
@@ -91,17 +91,22 @@ module _ (E : Recording) where
   raised-at X e t l =
       listOf-at (λ t. max (number (stepOne E X e) e t) (served E (stepOne E X e) e t)) 0 (tasks E) t l
 
-  raised-up : (X : Vectors) (e t : ℕ) → Shape X → e < size E → number X e t ≤ getD (raised E X e) t 0
+  -- a raised vector has at least the numbers of what e takes the largest of
+  pub raised-from : (X : Vectors) (e t s : ℕ) → Shape X → e < size E → s < size E → List·Memᴰ s (e ∷ sources E e)
+      → number X s t ≤ getD (raised E X e) t 0
   unfolding stepOne
-  raised-up X e t s l =
+  raised-from X e t s shape l k m =
       cases (ltb t (tasks E))
       (λ h.
-      let m = ltb-true t (tasks E) h in
-      let r = s .rows in
-      le-trans (largest-has (λ s. number X s t) {x = e} {l = e ∷ sources E e} (List·Memᴰ·head refl))
-      (le-trans (le-of-eq (sym (number-set-same X e t (gathered E X (sources E e) e) (omega arith) ∙ gathered-at X (sources E e) e t m)))
-      (le-trans (le-max-left _ _) (le-of-eq (sym (raised-at X e t m))))))
-      (λ h. le-trans (le-of-eq (beyond X e t s l (ltb-false t (tasks E) h))) zero-le)
+      let inside = ltb-true t (tasks E) h in
+      let r = shape .rows in
+      le-trans (largest-has (λ s. number X s t) m)
+      (le-trans (le-of-eq (sym (number-set-same X e t (gathered E X (sources E e) e) (omega arith) ∙ gathered-at X (sources E e) e t inside)))
+      (le-trans (le-max-left _ _) (le-of-eq (sym (raised-at X e t inside))))))
+      (λ h. le-trans (le-of-eq (beyond X s t shape k (ltb-false t (tasks E) h))) zero-le)
+
+  raised-up : (X : Vectors) (e t : ℕ) → Shape X → e < size E → number X e t ≤ getD (raised E X e) t 0
+  raised-up X e t s l = raised-from X e t e s l l (List·Memᴰ·head refl)
 
   set-up : (X : Vectors) (e : ℕ) (r : List ℕ) → e < length X → ((t : ℕ) → number X e t ≤ getD r t 0) → AtMost X (set X e r)
   set-up X e r l h a t =

@@ -10,8 +10,10 @@ pub mod Rules
 pub mod Sources
 pub mod Accept
 pub mod FileOrder
+pub mod Positions
 pub mod Sound
 pub mod Climb
+pub mod Rise
 pub mod Settle
 pub mod Recorded
 pub mod Forward

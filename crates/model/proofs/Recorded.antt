@@ -21,6 +21,7 @@ use Rattle.model.proofs.Tests.{cases, both, first, second, tests, compa
 use Rattle.model.proofs.Sum.{tally-grow, tally-has, tally-ext, tally-cut, ranked, rank-rises}
 use Rattle.model.proofs.Least.{largest-has, largest-ext, largest-reached}
 use Rattle.model.proofs.Lists.{listOf-at, number-set-same, number-set-other}
+use Rattle.model.proofs.Positions.{start-at, position-pos, position-rises, position-grows}
 use Rattle.model.proofs.Picked.{nth-of, nth-found}
 use Rattle.model.proofs.Rules.{sooner, wait-served}
 use Rattle.model.proofs.Sources.{last-found, source-of, source-precedes, of-found, has-previous}
@@ -121,34 +122,11 @@ module _ (E : Recording) where
   unfolding recorded
   recorded-shaped = recordedTo-shaped (size E) (le-refl (size E))
 
-  start-at : (e t : ℕ) → e < size E → t < (tasks E) → number (start E) e t ≡ cond (eqb t (taskOf E e)) (position E e) 0
-  unfolding start
-  start-at e t l k =
-      ap (λ (r : List ℕ). getD r t 0) (listOf-at (λ e. listOf (λ t. cond (eqb t (taskOf E e)) (position E e) 0) (tasks E)) [] (size E) e l)
-      ∙ listOf-at (λ t. cond (eqb t (taskOf E e)) (position E e) 0) 0 (tasks E) t k
-
--- ---- positions
-
-module _ (E : Recording) where
-  position-pos : (e : ℕ) → 0 < position E e
-  unfolding position
-  position-pos e = tally-has (λ a. ofTask (taskOf E e) (event E a)) (suc e) e (le-refl (suc e)) (eq-eqb (taskOf E e) (taskOf E e) refl)
-
-  position-rises : (a b : ℕ) → a < b → taskOf E a ≡ taskOf E b → position E a < position E b
-  unfolding position
-  position-rises a b l t =
-      subst (λ (x : ℕ). tally (λ d. ofTask x (event E d)) (suc a) < position E b) (sym t)
-      (let more = rank-rises (λ d. ofTask (taskOf E b) (event E d)) b (suc b) (le-refl (suc b)) (eq-eqb (taskOf E b) (taskOf E b) refl) in
-      let least = tally-grow (λ d. ofTask (taskOf E b) (event E d)) (suc a) b l in omega arith)
-
-  position-grows : (a b : ℕ) → a ≤ b → taskOf E a ≡ taskOf E b → position E a ≤ position E b
-  position-grows a b h t =
-      compared a b (λ l. let r = position-rises a b l t in omega arith) (λ e. le-of-eq (ap (position E) e)) (λ l. absurd (omega arith))
-
-  previous-cause : (a e : ℕ) → a < e → taskOf E a ≡ taskOf E e → (p : ℕ) × (a ≤ p) × (p < e) × (taskOf E p ≡ taskOf E e) × List·Memᴰ p (causes E e)
-  previous-cause a e l t =
-      let (p, h, r, k) = last-found (λ a. ofTask (taskOf E e) (event E a)) e a l (eq-eqb _ _ t) in
-      (p, k, r .inside, eqb-true (taskOf E p) (taskOf E e) (r .passes), Memᴰ·append-left (found (matched E e)) (has-previous E e p h))
+-- the event before e in its task is one that e follows, at or after any other before e
+previous-cause : (E : Recording) (a e : ℕ) → a < e → taskOf E a ≡ taskOf E e → (p : ℕ) × (a ≤ p) × (p < e) × (taskOf E p ≡ taskOf E e) × List·Memᴰ p (causes E e)
+previous-cause E a e l t =
+    let (p, h, r, k) = last-found (λ a. ofTask (taskOf E e) (event E a)) e a l (eq-eqb _ _ t) in
+    (p, k, r .inside, eqb-true (taskOf E p) (taskOf E e) (r .passes), Memᴰ·append-left (found (matched E e)) (has-previous E e p h))
 
 -- ---- what is ordered is ordered all the way down
 
