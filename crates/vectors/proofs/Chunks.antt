@@ -2,16 +2,18 @@
 -- Assumes nothing.
 use Prim.Native.Nat.{ℕ, zero, suc, _+_, _-_, _*_, _≤_, _<_}
 use mathlib.Core.Path.{_≡_, refl, sym, ap, ap₂, _∙_}
-use mathlib.Core.Bool.{Bool, _&&_, and-assoc}
+use mathlib.Core.Bool.{Bool, cond, _&&_, and-assoc}
 use mathlib.Core.List.{List, [], _∷_, _++_, map}
-use native.Mathlib.Nat.{le-of-suc-le-suc, zero-mul, suc-mul, mul-le-mul-right, add-comm, add-assoc, zero-add}
+use native.Mathlib.Nat.{not-suc-le-zero, le-of-suc-le-suc, zero-mul, suc-mul, mul-le-mul-right, add-comm, add-assoc, zero-add}
 use native.Mathlib.Omega.{arith}
 use lib.Dec.{eqb}
-use lib.ListN.{length, getD, take, drop, length-append, length-drop, take-append-drop, List·getD-eq-default}
+use lib.ListN.{length, getD, take, drop, length-append, length-drop, length-map, take-append-drop, List·getD-eq-default}
 use lib.Seq.{length-take-le, take-at, drop-at, getD-take, getD-drop, ext-getD}
 use Rattle.model.specs.Vectors.{Vectors, number, flat}
 use Rattle.model.specs.Passes.{sameRow, same}
-use Rattle.vectors.specs.Rows.{chunks, column}
+use Rattle.model.proofs.Tests.{eq-eqb, ne-eqb}
+use Rattle.model.proofs.Lists.{listOf-at, listOf-length}
+use Rattle.vectors.specs.Rows.{chunks, column, ownRow}
 
 -- n rows of m numbers
 pub record Shaped (n m : ℕ) (X : Vectors) : Type 0 where
@@ -91,7 +93,7 @@ number-chunks (suc n) m l (suc s) t h k =
     let e : suc s * m + t ≡ m + (s * m + t) = omega (arith, suc-mul s m) in
     number-chunks n m (drop m l) s t (room n m l h .1) k ∙ getD-drop m l (s * m + t) 0 ∙ ap (λ (i : ℕ). getD l i 0) (sym e)
 
-map-same : (f g : ℕ → ℕ) (l : List ℕ) → ((x : ℕ) → f x ≡ g x) → map f l ≡ map g l
+pub map-same : (f g : ℕ → ℕ) (l : List ℕ) → ((x : ℕ) → f x ≡ g x) → map f l ≡ map g l
 map-same f g [] h = refl
 map-same f g (x ∷ l) h = ap₂ _∷_ (h x) (map-same f g l h)
 
@@ -117,3 +119,30 @@ same-chunks (suc n) m l k h j =
     ap (λ (b : Bool). sameRow (take m l) (take m k) && b) (same-chunks n m (drop m l) (drop m k) (r .1) (s .1))
     ∙ sym (sameRow-append (take m l) (take m k) (drop m l) (drop m k) (length-take-le m l (r .0) ∙ sym (length-take-le m k (s .0))))
     ∙ ap₂ sameRow (take-append-drop m l) (take-append-drop m k)
+
+-- ---- a column and a starting row, number by number
+
+pub column-length : (m : ℕ) (l : List ℕ) (t : ℕ) (es : List ℕ) → length (column m l t es) ≡ length es
+unfolding column
+column-length m l t es = length-map es (λ (e : ℕ). getD l (e * m + t) 0)
+
+pub column-at : (m : ℕ) (l : List ℕ) (t : ℕ) (es : List ℕ) (i : ℕ) → i < length es → getD (column m l t es) i 0 ≡ getD l (getD es i 0 * m + t) 0
+unfolding column
+column-at m l t [] i h = absurd (not-suc-le-zero h)
+column-at m l t (e ∷ es) zero h = refl
+column-at m l t (e ∷ es) (suc i) h = column-at m l t es i (le-of-suc-le-suc h)
+
+module _ (m own x : ℕ) where
+  pub own-length : length (ownRow m own x) ≡ m
+  unfolding ownRow
+  own-length = listOf-length (λ t. cond (eqb t own) x 0) 0 m
+
+  own-at : (t : ℕ) → t < m → getD (ownRow m own x) t 0 ≡ cond (eqb t own) x 0
+  unfolding ownRow
+  own-at t h = listOf-at (λ t. cond (eqb t own) x 0) 0 m t h
+
+  pub own-same : (t : ℕ) → t < m → t ≡ own → getD (ownRow m own x) t 0 ≡ x
+  own-same t h q = own-at t h ∙ rw (eq-eqb t own q)
+
+  pub own-other : (t : ℕ) → t < m → (t ≡ own → ⊥) → getD (ownRow m own x) t 0 ≡ 0
+  own-other t h q = own-at t h ∙ rw (ne-eqb t own q)

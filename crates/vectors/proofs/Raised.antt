@@ -5,6 +5,7 @@ use mathlib.Core.Path.{_≡_, refl, sym, ap, ap₂, _∙_}
 use mathlib.Core.Logic.{_⊎_, inl, inr, ⊎-elim}
 use mathlib.Core.List.{List, [], _∷_}
 use native.Mathlib.Nat.{not-suc-le-zero, max-eq-left}
+use native.Mathlib.Numerals.{add-one}
 use native.Mathlib.Omega.{arith}
 use lib.Dec.{eqb}
 use lib.ListN.{length, getD, set, length-set}
@@ -13,8 +14,8 @@ use Rattle.model.specs.Numbers.{listOf}
 use Rattle.model.specs.Vectors.{Vectors, number}
 use Rattle.model.proofs.Tests.{cases, compared, tests, last-or-lower, eqb-true, eqb-false}
 use Rattle.model.proofs.Lists.{listOf-at, listOf-length, number-set-same, number-set-other}
-use Rattle.vectors.specs.Rows.{chunks, raisedAt, raisedTo}
-use Rattle.vectors.proofs.Chunks.{Shaped, next-row, same-numbers, chunks-shaped, number-chunks}
+use Rattle.vectors.specs.Rows.{chunks, column, raisedAt, raisedTo}
+use Rattle.vectors.proofs.Chunks.{Shaped, next-row, same-numbers, chunks-shaped, number-chunks, map-same}
 
 -- ---- in the flat list
 
@@ -112,3 +113,25 @@ chunks-raised n m l e f h p =
   where
     other : (a t : ℕ) → t < m → (a ≡ e → ⊥) → getD l (a * m + t) 0 ≡ number (raisedTo m (chunks n m l) e f) a t
     other a t k d = sym (number-chunks n m l a t h k) ∙ sym (raisedTo-other m (chunks n m l) e f a t d)
+
+-- ---- one turn of raising a row
+
+-- the numbers that turn t reads
+pub column-read : (l v : List ℕ) (m e : ℕ) (f : ℕ → ℕ) (t : ℕ) → t < m → v ≡ raisedAt l (e * m) f t → (s : ℕ) → getD v (s * m + t) 0 ≡ getD l (s * m + t) 0
+column-read l v m e f t h q s = ap (λ (u : List ℕ). getD u (s * m + t) 0) q ∙ column-kept l f m e s t h
+
+pub columns-read : (l v : List ℕ) (m e : ℕ) (f : ℕ → ℕ) (t : ℕ) (es : List ℕ) → t < m → v ≡ raisedAt l (e * m) f t → column m v t es ≡ column m l t es
+unfolding column
+columns-read l v m e f t es h q = map-same _ _ es (column-read l v m e f t h q)
+
+-- the number that it raises
+pub raise-turn : (l v : List ℕ) (m e : ℕ) (f : ℕ → ℕ) (t y : ℕ) → t < m → v ≡ raisedAt l (e * m) f t
+    → max (getD l (e * m + t) 0) y ≡ max (getD l (e * m + t) 0) (f t) → set v (e * m + t) (max (getD v (e * m + t) 0) y) ≡ raisedAt l (e * m) f (t + 1)
+unfolding raisedAt
+raise-turn l v m e f t y h q p =
+    let r : max (getD v (e * m + t) 0) y ≡ max (getD l (e * m + t) 0) (f t) = omega (arith, column-read l v m e f t h q e) in
+    rw (add-one t) (ap₂ (λ (u : List ℕ) (x : ℕ). set u (e * m + t) x) q r)
+
+pub raised-start : (l : List ℕ) (a : ℕ) (f : ℕ → ℕ) → l ≡ raisedAt l a f 0
+unfolding raisedAt
+raised-start l a f = refl
