@@ -1,4 +1,5 @@
 pub mod Tests
+pub mod Checks
 pub mod Sum
 pub mod Counting
 pub mod Least
@@ -7,3 +8,16 @@ pub mod Place
 pub mod Picked
 pub mod Rules
 pub mod Sources
+pub mod Accept
+pub mod FileOrder
+pub mod Positions
+pub mod Sound
+pub mod Climb
+pub mod Rise
+pub mod Settle
+pub mod Recorded
+pub mod Forward
+pub mod Listed
+pub mod Files
+pub mod Promise
+pub mod Starred

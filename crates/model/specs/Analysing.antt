@@ -13,7 +13,7 @@ use Rattle.model.specs.Recording.{Recording, size, tasks}
 use Rattle.model.specs.File.{recordingOf}
 use Rattle.model.specs.Reading.{fileCheck}
 use Rattle.model.specs.Vectors.{flat}
-use Rattle.model.specs.Passes.{run}
+use Rattle.model.specs.Passes.{safeVectors, passesMade, isSettled}
 use Rattle.model.specs.Recorded.{recorded}
 use Rattle.model.specs.Pairs.{listed, entryNumbers}
 
@@ -23,7 +23,7 @@ workFits E work = leb (2 * (size E * tasks E)) (length work)
 
 -- the work memory filled: the safe vectors, the recorded vectors, and beyond them what was there
 unfoldable pub filled : Recording → ℕ → List ℕ → List ℕ
-filled E b work = flat (run E b .vectors) ++ flat (recorded E) ++ drop (2 * (size E * tasks E)) work
+filled E b work = flat (safeVectors E b) ++ flat (recorded E) ++ drop (2 * (size E * tasks E)) work
 
 -- the list has 3 × pairs numbers
 abbrev pub listFits : Recording → ℕ → List ℕ → Bool
@@ -41,7 +41,7 @@ analysisCheck f b work list =
 
 -- passes made, settled, and pairs
 abbrev pub done : Recording → ℕ → Analysis
-done E b = Analysis.Done (run E b .passes) (run E b .settled) (length (listed E b))
+done E b = Analysis.Done (passesMade E b) (isSettled E b) (length (listed E b))
 
 abbrev pub analysisBy : Recording → ℕ → Check → Analysis
 analysisBy E b Check.Passed = done E b

@@ -9,7 +9,7 @@ use Rattle.model.specs.declared.Event.{Event}
 use Rattle.model.specs.Numbers.{each}
 use Rattle.model.specs.Recording.{Recording, size, cells, event, objectOf}
 use Rattle.model.specs.Vectors.{Vectors, unordered}
-use Rattle.model.specs.Passes.{run}
+use Rattle.model.specs.Passes.{safeVectors}
 use Rattle.model.specs.Recorded.{recorded}
 
 abbrev pub isWrite : Event → Bool
@@ -54,7 +54,7 @@ entries E X R = each (cellEntries E X R) (cells E)
 
 -- the list of a run with budget b
 unfoldable pub listed : Recording → ℕ → List Entry
-listed E b = entries E (run E b .vectors) (recorded E)
+listed E b = entries E (safeVectors E b) (recorded E)
 
 -- the list of budget b has an entry for the events a and e, in either order, with the mark m
 abbrev pub OnList : Recording → ℕ → ℕ → ℕ → ℕ → Type 0

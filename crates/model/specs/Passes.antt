@@ -121,3 +121,13 @@ further E r =
 unfoldable pub run : Recording → ℕ → Run
 run E zero = record { passes = 0; settled = false; vectors = start E }
 run E (suc b) = further E (run E b)
+
+-- of a run with budget b: the safe vectors, passes made, and whether it is settled
+abbrev pub safeVectors : Recording → ℕ → Vectors
+safeVectors E b = run E b .vectors
+
+abbrev pub passesMade : Recording → ℕ → ℕ
+passesMade E b = run E b .passes
+
+abbrev pub isSettled : Recording → ℕ → Bool
+isSettled E b = run E b .settled

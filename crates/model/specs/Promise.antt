@@ -10,7 +10,7 @@ use Rattle.model.specs.Recording.{Recording, size, event}
 use Rattle.model.specs.File.{recordingOf}
 use Rattle.model.specs.Reading.{readingOf}
 use Rattle.model.specs.Orders.{Always, Sometimes}
-use Rattle.model.specs.Passes.{run}
+use Rattle.model.specs.Passes.{passesMade, isSettled}
 use Rattle.model.specs.Pairs.{conflict, Entry, OnList, listed}
 
 pub record Promise (E : Recording) (b : ℕ) : Type 0 where
@@ -23,11 +23,11 @@ pub record Promise (E : Recording) (b : ℕ) : Type 0 where
   -- or changes a mark
   pub keeps-marks : (d : ℕ) → b ≤ d → (a e m n : ℕ) → OnList E d a e m → OnList E b a e n → m ≡ n
   -- with N events, every budget of N × N + 1 or more is settled
-  pub settles : size E * size E + 1 ≤ b → run E b .settled ≡ true
+  pub settles : size E * size E + 1 ≤ b → isSettled E b ≡ true
   -- where one budget is settled, every larger one gives the same list and marks
-  pub keeps-list : run E b .settled ≡ true → (d : ℕ) → b ≤ d → listed E d ≡ listed E b
+  pub keeps-list : isSettled E b ≡ true → (d : ℕ) → b ≤ d → listed E d ≡ listed E b
   -- and the same pass count
-  pub keeps-passes : run E b .settled ≡ true → (d : ℕ) → b ≤ d → run E d .passes ≡ run E b .passes
+  pub keeps-passes : isSettled E b ≡ true → (d : ℕ) → b ≤ d → passesMade E d ≡ passesMade E b
 
 -- the statement, proved as `promise` in proofs/Promise.antt
 abbrev pub Promised : Type 0

@@ -13,7 +13,7 @@ use Rattle.model.specs.Recording.{Recording, size}
 use Rattle.model.specs.File.{recordingOf}
 use Rattle.model.specs.Reading.{fileCheck}
 use Rattle.model.specs.Vectors.{ordered, unordered}
-use Rattle.model.specs.Passes.{run}
+use Rattle.model.specs.Passes.{safeVectors}
 use Rattle.model.specs.Recorded.{recorded}
 use Rattle.model.specs.Analysing.{workFits, filled}
 
@@ -27,7 +27,7 @@ relationNumber Relation.Sure = 4
 -- read like the list, but for any two events a and e, with a budget b
 unfoldable pub relationOf : Recording → ℕ → ℕ → ℕ → Relation
 relationOf E b a e =
-    let X = run E b .vectors in
+    let X = safeVectors E b in
     cond (ordered E X a e) Relation.First
     (cond (ordered E X e a) Relation.Second (cond (unordered E (recorded E) a e) Relation.Sure Relation.Open))
 

@@ -1,0 +1,45 @@
+-- What acceptance says of each record: its kind is known, its names are, and it obeys the four rules.
+-- Assumes nothing.
+use Prim.Native.Nat.{ℕ, zero, suc, _<_}
+use mathlib.Core.Path.{_≡_, sym, subst}
+use mathlib.Core.Bool.{true}
+use native.Mathlib.Nat.{not-suc-le-zero}
+use lib.Dec.{ltb}
+use lib.ListN.{take}
+use Rattle.model.specs.declared.Check.{Check}
+use Rattle.model.specs.Recording.{Recording, size, tasks, event, taskOf, knownKind, named, namesOf, classOf, lifeKept, waitKept, obeys, recordCheck, firstFault, Accepted}
+use Rattle.model.proofs.Tests.{both, first, second, last-or-lower, ltb-true}
+use Rattle.model.proofs.Checks.{unless-passed, then-passed}
+
+module _ (E : Recording) where
+  no-fault : (n : ℕ) → firstFault E n ≡ Check.Passed → (e : ℕ) → e < n → recordCheck (E .counts) (take e (E .events)) (event E e) ≡ Check.Passed
+  unfolding firstFault
+  no-fault zero h e l = absurd (not-suc-le-zero l)
+  no-fault (suc n) h e l =
+      let (earlier, here) = then-passed (firstFault E n) _ h in
+      last-or-lower l (λ d. subst (λ (x : ℕ). recordCheck (E .counts) (take x (E .events)) (event E x) ≡ Check.Passed) (sym d) here)
+      (λ k. no-fault n earlier e k)
+
+  module _ (acc : Accepted E) where
+    kept-at : (e : ℕ) → e < size E
+        → (knownKind (event E e) ≡ true) × (named (E .counts) (event E e) ≡ true)
+        × (lifeKept (take e (E .events)) (event E e) ≡ true) × (waitKept (take e (E .events)) (event E e) ≡ true)
+    unfolding Accepted recordCheck
+    kept-at e l =
+        let (kind, a) = unless-passed _ _ _ (no-fault (size E) acc e l) in
+        let (name, b) = unless-passed _ _ _ a in
+        let (life, c) = unless-passed _ _ _ b in
+        (kind, name, life, unless-passed _ _ _ c .0)
+
+    pub accepted-obeys : (e : ℕ) → e < size E → obeys (take e (E .events)) (event E e) ≡ true
+    unfolding obeys
+    accepted-obeys e l = let k = kept-at e l in both (k .2) (k .3)
+
+    -- its task is below T, and its object below the names of its class
+    pub task-inside : (e : ℕ) → e < size E → taskOf E e < tasks E
+    unfolding named
+    task-inside e l = ltb-true (taskOf E e) (tasks E) (first (ltb (taskOf E e) (tasks E)) _ (kept-at e l .1))
+
+    pub object-inside : (e : ℕ) → e < size E → event E e .object < namesOf (E .counts) (classOf (event E e .kind))
+    unfolding named
+    object-inside e l = ltb-true _ _ (second (ltb (taskOf E e) (tasks E)) _ (kept-at e l .1))

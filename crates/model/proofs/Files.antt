@@ -1,0 +1,93 @@
+-- What it says of a file that reading accepts it.
+-- Assumes nothing.
+use Prim.Native.Nat.{ℕ, _+_, _-_, _*_, _/_, _≤_}
+use mathlib.Core.Path.{_≡_, refl, sym, ap, _∙_}
+use mathlib.Core.Bool.{true, _&&_}
+use mathlib.Core.List.{List}
+use native.Mathlib.Omega.{arith}
+use lib.Dec.{leb, eqb}
+use lib.ListN.{length, take, drop, length-take, length-drop}
+use Rattle.model.specs.declared.Counts.{Counts}
+use Rattle.model.specs.declared.Header.{Header}
+use Rattle.model.specs.declared.Check.{Check}
+use Rattle.model.specs.declared.Reading.{Reading}
+use Rattle.model.specs.Recording.{Recording, size, noEvent, Accepted, firstFault}
+use Rattle.model.specs.File.{eventAt, eventsOf, trailer, headerOf, editionOf, recordBytes, recordingOf}
+use Rattle.model.specs.Reading.{extentMet, inRange, fileCheck, readingBy, readingOf}
+use Rattle.model.proofs.Tests.{first, second, leb-true, eqb-true}
+use Rattle.model.proofs.Checks.{unless-passed}
+use Rattle.model.proofs.Lists.{listOf-length, listOf-at}
+
+-- the counts of a file with n records are within their ranges
+pub record InRange (c : Counts) (n : ℕ) : Type 0 where
+  pub some-task : 1 ≤ c .tasks
+  pub few-tasks : c .tasks ≤ 16
+  pub few-semaphores : c .semaphores ≤ 64
+  pub few-cells : c .cells ≤ 1024
+  pub few-records : n ≤ 1024
+
+pub in-range : (c : Counts) (n : ℕ) → inRange c n ≡ true → InRange c n
+unfolding inRange
+in-range c n h =
+    let d = first (leb 1 (c .tasks) && leb (c .tasks) 16 && leb (c .semaphores) 64 && leb (c .cells) 1024) (leb n 1024) h in
+    let e = first (leb 1 (c .tasks) && leb (c .tasks) 16 && leb (c .semaphores) 64) (leb (c .cells) 1024) d in
+    let g = first (leb 1 (c .tasks) && leb (c .tasks) 16) (leb (c .semaphores) 64) e in
+    record {
+      some-task = leb-true 1 (c .tasks) (first (leb 1 (c .tasks)) (leb (c .tasks) 16) g);
+      few-tasks = leb-true (c .tasks) 16 (second (leb 1 (c .tasks)) (leb (c .tasks) 16) g);
+      few-semaphores = leb-true (c .semaphores) 64 (second (leb 1 (c .tasks) && leb (c .tasks) 16) (leb (c .semaphores) 64) e);
+      few-cells = leb-true (c .cells) 1024 (second (leb 1 (c .tasks) && leb (c .tasks) 16 && leb (c .semaphores) 64) (leb (c .cells) 1024) d);
+      few-records = leb-true n 1024 (second (leb 1 (c .tasks) && leb (c .tasks) 16 && leb (c .semaphores) 64 && leb (c .cells) 1024) (leb n 1024) h);
+    }
+
+-- all that the checks of a file say
+pub record Sound (f : List ℕ) : Type 0 where
+  pub long : 16 ≤ length f
+  pub edition : editionOf f ≡ 1
+  pub extent : headerOf f .start + 4 * headerOf f .records + 16 ≡ length f
+  pub range : InRange (headerOf f .counts) (headerOf f .records)
+  pub accepted : Accepted (recordingOf f)
+
+pub sound : (f : List ℕ) → fileCheck f ≡ Check.Passed → Sound f
+unfolding fileCheck extentMet Accepted
+sound f h =
+    let (long, a) = unless-passed _ _ _ h in
+    let (edition, b) = unless-passed _ _ _ a in
+    let (extent, c) = unless-passed _ _ _ b in
+    let (range, d) = unless-passed _ _ _ c in
+    let l = leb-true 16 (length f) long in
+    let x = eqb-true (headerOf f .start + 4 * headerOf f .records) (trailer f) extent in
+    record {
+      long = l;
+      edition = eqb-true (editionOf f) 1 edition;
+      extent = omega arith;
+      range = in-range (headerOf f .counts) (headerOf f .records) range;
+      accepted = d;
+    }
+
+-- reading accepts a file exactly where its check passes
+pub reading-passed : (f : List ℕ) (h : Header) → readingOf f ≡ Reading.Accepted h → fileCheck f ≡ Check.Passed
+unfolding readingOf
+reading-passed f h q = go (fileCheck f) q
+  where
+    go : (c : Check) → readingBy (headerOf f) c ≡ Reading.Accepted h → c ≡ Check.Passed
+    go Check.Passed q = refl
+    go (Check.Failed r) q = let z : _≡_ {A = ℕ} 0 1 = cc in absurd (omega arith)
+
+pub accepted-recording : (f : List ℕ) (h : Header) → readingOf f ≡ Reading.Accepted h → Accepted (recordingOf f)
+accepted-recording f h q = sound f (reading-passed f h q) .accepted
+
+-- ---- the events of record bytes
+
+pub events-length : (s : List ℕ) → length (eventsOf s) ≡ length s / 4
+unfolding eventsOf
+events-length s = listOf-length (eventAt s) noEvent (length s / 4)
+
+-- the records' part has N whole records, and so many events
+pub bytes-length : (f : List ℕ) → Sound f → length (recordBytes f (headerOf f)) ≡ 4 * headerOf f .records
+unfolding recordBytes
+bytes-length f s = let x = s .extent in simp (length-take, length-drop) (omega arith)
+
+pub size-records : (f : List ℕ) → Sound f → size (recordingOf f) ≡ headerOf f .records
+unfolding recordingOf
+size-records f s = events-length (recordBytes f (headerOf f)) ∙ (let l = bytes-length f s in omega arith)

@@ -1,0 +1,193 @@
+-- The events that the recorded vectors put at or before x, first, and then the others: an admissible order.
+-- Assumes nothing.
+use Prim.Native.Nat.{ℕ, zero, suc, _<_}
+use mathlib.Core.Path.{_≡_, refl, sym, ap, subst, _∙_}
+use mathlib.Core.Bool.{Bool, true, false, not, _&&_}
+use mathlib.Core.List.{List, _++_, List·Memᴰ, Memᴰ·append-left, Memᴰ·append-right}
+use Rattle.model.specs.declared.Found.{Found}
+use native.Mathlib.Nat.{le-refl, not-suc-le-zero}
+use native.Mathlib.Omega.{arith}
+use lib.Dec.{leb, ltb, eqb}
+use Rattle.model.specs.declared.Event.{Event}
+use Rattle.model.specs.Numbers.{bit, tally, count, picked}
+use Rattle.model.specs.Recording.{event, ofTask, isSignal, isWait, isFork, isJoin, notJoined, forkKept, joinKept, waitKept, lifeKept, obeys, Accepted, Recording, size, taskOf, kindOf, objectOf}
+use Rattle.model.specs.Orders.{place, Precedes, occurrences, Admissible}
+use Rattle.model.specs.Vectors.{Vectors}
+use Rattle.model.specs.Passes.{previous, sources}
+use Rattle.model.specs.Recorded.{matched, recorded}
+use Rattle.model.proofs.Tests.{to-not, both, first, second, and-fails, implies-by, tests, ltb-true, lt-ltb, eqb-true, eq-eqb, ne-eqb, leb-true}
+use Rattle.model.proofs.Sum.{tally-zero, tally-has, tally-lt, tally-inject, rank-same}
+use Rattle.model.proofs.Picked.{parted-once, parted-first, parted-rises}
+use Rattle.model.proofs.Rules.{sooner, earlier, count-earlier, obeying-by, kind-is, object-is, fork-other, join-other, fork-first, join-last, join-forked, one-fork, one-join}
+use Rattle.model.proofs.Sources.{last-some, last-found, in-found, has-previous, has-fork, has-join-fork, has-join-end, fork-found}
+use Rattle.model.proofs.FileOrder.{fileOrder, file-admissible, file-lower}
+use Rattle.model.proofs.Recorded.{upTo, matched-wait, matched-found, matched-lower, up-self, up-own, up-cause}
+
+-- the events at or before x first, then the others, each in the order of the file
+unfoldable pub bringForward : Recording → Vectors → ℕ → List ℕ
+bringForward E X x = picked (upTo E X x) (size E) ++ picked (λ a. not (upTo E X x a)) (size E)
+
+module _ (E : Recording) (acc : Accepted E) (x : ℕ) (inside : x < size E) where
+  abbrev up : ℕ → Bool
+  up a = upTo E (recorded E) x a
+
+  abbrev o : List ℕ
+  o = picked up (size E) ++ picked (λ a. not (up a)) (size E)
+
+  abbrev f₀ : List ℕ
+  f₀ = fileOrder E
+
+  file : Admissible E f₀
+  file = file-admissible E acc
+
+  once : (e : ℕ) → occurrences e o ≡ bit (ltb e (size E))
+  once e = parted-once up (size E) e
+
+  -- an order of the file is kept where it does not bring the later event forward alone
+  keep : (a b : ℕ) → a < b → b < size E → (up b ≡ true → up a ≡ true) → Precedes o a b
+  keep a b k l h = parted-rises up (size E) a b k l h
+
+  -- an event is brought forward with its sources
+  brings : (a s : ℕ) → a < size E → List·Memᴰ s (sources E a) → up a ≡ true → up s ≡ true
+  brings a s k h u = up-cause E acc x a s inside k (Memᴰ·append-left _ h) u
+
+  -- ---- the order of events that the rules ask for
+
+  join-brings : (j e : ℕ) → j < size E → e < size E → isJoin (taskOf E e) (event E j) ≡ true → up j ≡ true → up e ≡ true
+  join-brings j e k l t u =
+      let kind = kind-is 4 (taskOf E e) (event E j) t in
+      let named = object-is 4 (taskOf E e) (event E j) t in
+      let (z, q, r, h) = last-found (λ a. ofTask (objectOf E j) (event E a)) (size E) e l (eq-eqb _ _ (sym named)) in
+      up-own E acc x e z h (sym named ∙ sym (eqb-true (taskOf E z) (objectOf E j) (r .passes))) (brings j z k (has-join-end E j z kind q) u)
+
+  -- from an event back to its task's first one, and to the fork
+  fork-brings : (n f e : ℕ) → e < n → f < size E → e < size E → isFork (taskOf E e) (event E f) ≡ true → up e ≡ true → up f ≡ true
+  fork-brings zero f e m k l t u = absurd (not-suc-le-zero m)
+  fork-brings (suc n) f e m k l t u = go (previous E e) refl (λ p i j s v. fork-brings n f p i k j s v)
+    where
+      go : (w : Found) → previous E e ≡ w
+          → ((p : ℕ) → p < n → p < size E → isFork (taskOf E p) (event E f) ≡ true → up p ≡ true → up f ≡ true) → up f ≡ true
+      go Found.Nothing q ih = brings e f l (has-fork E e f q (fork-found E f₀ file (taskOf E e) f k t)) u
+      go (Found.At p) q ih =
+          let r = last-some (λ a. ofTask (taskOf E e) (event E a)) e p q in
+          let lower = r .inside in
+          let same = eqb-true (taskOf E p) (taskOf E e) (r .passes) in
+          ih p (omega arith) (omega arith) (subst (λ (y : ℕ). isFork y (event E f) ≡ true) (sym same) t) (brings e p l (has-previous E e p q) u)
+
+  keeps-fork : (f e : ℕ) → f < size E → e < size E → isFork (taskOf E e) (event E f) ≡ true → Precedes o f e
+  keeps-fork f e k l t = keep f e (file-lower E f e k l (fork-first E f₀ file f e k l t)) l (fork-brings (suc e) f e (le-refl (suc e)) k l t)
+
+  keeps-join : (j e : ℕ) → j < size E → e < size E → isJoin (taskOf E e) (event E j) ≡ true → Precedes o e j
+  keeps-join j e k l t = keep e j (file-lower E e j l k (join-last E f₀ file j e k l t)) k (join-brings j e k l t)
+
+  keeps-match : (e s : ℕ) → e < size E → matched E e ≡ Found.At s → Precedes o s e
+  keeps-match e s l q =
+      keep s e (matched-lower E acc e s l q) l (up-cause E acc x e s inside l (Memᴰ·append-right (sources E e) (in-found q)))
+
+  -- ---- the four rules
+
+  none-before : (q : Event → Bool) (e : ℕ) → ((a : ℕ) → a < size E → q (event E a) ≡ true → ¬ (Precedes o a e)) → eqb (count q (earlier E o e)) 0 ≡ true
+  none-before q e h =
+      eq-eqb _ _
+      (count-earlier E o once q e
+      ∙ tally-zero (λ a. q (event E a) && sooner o a e) (size E)
+      (λ a l.
+      fails-both (q (event E a)) (sooner o a e) (λ t s. h a l t (ltb-true _ _ s))))
+    where
+      fails-both : (a b : Bool) → (a ≡ true → b ≡ true → ⊥) → (a && b) ≡ false
+      fails-both true true h = absurd (h refl refl)
+      fails-both true false h = refl
+      fails-both false b h = refl
+
+  not-joined : (e : ℕ) → e < size E → notJoined (earlier E o e) (event E e) ≡ true
+  not-joined e l = none-before (isJoin (taskOf E e)) e (λ a k t p. let q = keeps-join a e k l t in omega arith)
+
+  fork-kept : (e : ℕ) → e < size E → forkKept (earlier E o e) (event E e) ≡ true
+  fork-kept e l =
+      implies-by (eqb (kindOf E e) 3) _
+      (λ t.
+      let own = both t (eq-eqb (objectOf E e) (objectOf E e) refl) in
+      both
+      (both (to-not (ne-eqb _ _ (fork-other E f₀ file e l t)))
+      (none-before (isFork (objectOf E e)) e (λ a k s p. let q = ap (place o) (one-fork E f₀ file (objectOf E e) a e k l s own) in omega arith)))
+      (none-before (ofTask (objectOf E e)) e
+      (λ a k s p. let q = keeps-fork e a l k (both t (eq-eqb _ _ (sym (eqb-true (taskOf E a) (objectOf E e) s)))) in omega arith)))
+
+  join-kept : (e : ℕ) → e < size E → joinKept (earlier E o e) (event E e) ≡ true
+  join-kept e l =
+      implies-by (eqb (kindOf E e) 4) _
+      (λ t.
+      let own = both t (eq-eqb (objectOf E e) (objectOf E e) refl) in
+      both (both (to-not (ne-eqb _ _ (join-other E f₀ file e l t))) (forked t))
+      (none-before (isJoin (objectOf E e)) e (λ a k s p. let q = ap (place o) (one-join E f₀ file (objectOf E e) a e k l s own) in omega arith)))
+    where
+      forked : eqb (kindOf E e) 4 ≡ true → ltb 0 (count (isFork (objectOf E e)) (earlier E o e)) ≡ true
+      forked t =
+          let (f, k, q, p) = join-forked E f₀ file e l t in
+          let still = keep f e (file-lower E f e k l p) l (brings e f l (has-join-fork E e f t (fork-found E f₀ file (objectOf E e) f k q))) in
+          let h = tally-has (λ a. isFork (objectOf E e) (event E a) && sooner o a e) (size E) f k (both q (lt-ltb _ _ still)) in
+          let s = count-earlier E o once (isFork (objectOf E e)) e in omega tests
+
+  -- the waits at or before a wait have each a signal of their own before it
+  wait-served : (e : ℕ) → e < size E → eqb (kindOf E e) 2 ≡ true
+      → tally (λ a. isWait (objectOf E e) (event E a) && sooner o a e) (size E)
+      < tally (λ a. isSignal (objectOf E e) (event E a) && sooner o a e) (size E)
+  wait-served e l t =
+      let more = tally-lt (λ a. isWait S (event E a) && sooner o a e) at (size E) e
+      (λ a k u. let s = second (isWait S (event E a)) (sooner o a e) u in both (first (isWait S (event E a)) _ u) (omega tests)) l
+      (and-fails (isWait S (event E e)) (omega tests)) (both (both t (eq-eqb S S refl)) (omega tests)) in
+      let each = tally-inject M one at (λ a. isSignal S (event E a) && sooner o a e) (size E) (size E) give in
+      omega arith
+    where
+      S : ℕ
+      S = objectOf E e
+
+      at : ℕ → Bool
+      at a = isWait S (event E a) && leb (place o a) (place o e)
+
+      M : ℕ → ℕ → Type 0
+      M a s = (isWait S (event E a) ≡ true) × (matched E a ≡ Found.At s)
+
+      rank : (a s : ℕ) → M a s → tally (λ w. isWait S (event E w)) a ≡ tally (λ b. isSignal S (event E b)) s
+      rank a s (w, q) =
+          subst (λ (y : ℕ). tally (λ w. isWait y (event E w)) a ≡ tally (λ b. isSignal y (event E b)) s) (object-is 2 S (event E a) w)
+          (sym (matched-wait E a s q .1 .rank))
+
+      one : (a b s : ℕ) → M a s → M b s → a ≡ b
+      one a b s u v = rank-same (λ w. isWait S (event E w)) a b (u .0) (v .0) (rank a s u ∙ sym (rank b s v))
+
+      give : (a : ℕ) → a < size E → at a ≡ true → (s : ℕ) × (s < size E) × ((isSignal S (event E s) && sooner o s e) ≡ true) × M a s
+      give a k u =
+          let w = first (isWait S (event E a)) (leb (place o a) (place o e)) u in
+          let before = leb-true (place o a) (place o e) (second (isWait S (event E a)) _ u) in
+          let (s, q) = matched-found E acc a k (kind-is 2 S (event E a) w) in
+          let m = matched-wait E a s q .1 in
+          let p = keeps-match a s k q in
+          (s, m .inside, both (subst (λ (y : ℕ). isSignal y (event E s) ≡ true) (object-is 2 S (event E a) w) (m .signal)) (lt-ltb (place o s) (place o e) (omega arith)), (w, q))
+
+  wait-kept : (e : ℕ) → e < size E → waitKept (earlier E o e) (event E e) ≡ true
+  unfolding waitKept
+  wait-kept e l =
+      implies-by (eqb (kindOf E e) 2) _
+      (λ t.
+      let h = wait-served e l t in
+      let w = count-earlier E o once (isWait (objectOf E e)) e in
+      let s = count-earlier E o once (isSignal (objectOf E e)) e in omega tests)
+
+  rules : (e : ℕ) → e < size E → obeys (earlier E o e) (event E e) ≡ true
+  unfolding obeys lifeKept
+  rules e l = both (both (both (not-joined e l) (fork-kept e l)) (join-kept e l)) (wait-kept e l)
+
+  pub forward-admissible : Admissible E (bringForward E (recorded E) x)
+  unfolding bringForward
+  forward-admissible =
+      record {
+        once = once;
+        own = λ a b k l t. keep a b k l (up-own E acc x a b (omega arith) t);
+        rules = obeying-by E o once rules;
+      }
+
+  -- what the recorded vectors do not put before x comes after it
+  pub forward-precedes : (a : ℕ) → upTo E (recorded E) x a ≡ false → Precedes (bringForward E (recorded E) x) x a
+  unfolding bringForward
+  forward-precedes a h = parted-first up (size E) x a inside (up-self E acc x inside) h

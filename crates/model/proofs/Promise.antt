@@ -1,0 +1,148 @@
+-- Demand 3: the promises hold of every accepted file and of every budget. Off the list is by soundness, sure by the order that
+-- brings the later event forward, the budgets by climbing and by the bound on the sum of all numbers.
+-- Assumes nothing.
+use Prim.Native.Nat.{ℕ, _≤_, _<_}
+use mathlib.Core.Path.{_≡_, refl, sym, ap, subst, subst₂, _∙_}
+use mathlib.Core.Logic.{_⊎_, inl, inr}
+use mathlib.Core.Bool.{Bool, true, false, cond, not}
+use mathlib.Core.List.{List·Memᴰ}
+use native.Mathlib.Omega.{arith}
+use lib.Dec.{eqb}
+use Rattle.model.specs.Recording.{Recording, size, event, cells, objectOf, Accepted}
+use Rattle.model.specs.Orders.{Admissible, Always, Sometimes}
+use Rattle.model.specs.Vectors.{ordered, unordered}
+use Rattle.model.specs.Passes.{Run, needed, candidates, stepOne, passTo, run}
+use Rattle.model.specs.Recorded.{recorded}
+use Rattle.model.specs.Pairs.{Entry, conflict, racePair, mark, entry, entries, listed, OnList}
+use Rattle.model.specs.Promise.{Promise, Promised}
+use Rattle.model.proofs.Tests.{cases, of-not, to-not, both, first, and-false, lt-ltb, ne-eqb}
+use Rattle.model.proofs.Accept.{object-inside}
+use Rattle.model.proofs.FileOrder.{fileOrder, file-admissible, file-precedes, file-lower}
+use Rattle.model.proofs.Sound.{passTo-length, ordered-precedes, step-one, passTo-safe, enough}
+use Rattle.model.proofs.Climb.{run-shaped, run-safe, settled-stays, budget-up}
+use Rattle.model.proofs.Settle.{settles}
+use Rattle.model.proofs.Recorded.{upTo}
+use Rattle.model.proofs.Forward.{bringForward, forward-admissible, forward-precedes}
+use Rattle.model.proofs.Listed.{Entered, entry-of, entry-in, pair-lower, ordered-more, race-more, conflict-cell}
+use Rattle.model.proofs.Files.{accepted-recording}
+use lib.ListN.{length}
+
+module _ (E : Recording) (acc : Accepted E) where
+  file : Admissible E (fileOrder E)
+  file = file-admissible E acc
+
+  -- what the safe vectors order comes so in every admissible order
+  pub ordered-always : (b a e : ℕ) → a < size E → e < size E → ordered E (run E b .vectors) a e ≡ true → Always E a e
+  ordered-always b a e k l t o adm = ordered-precedes E o adm (run E b .vectors) (run-safe E o adm b) a e k l t
+
+  -- fewer than k candidates never happens: not in any pass of any run
+  pub enough-candidates : (b n : ℕ) → n < size E
+      → needed E (stepOne E (passTo E (run E b .vectors) n) n) n ≤ length (candidates E (stepOne E (passTo E (run E b .vectors) n) n) n)
+  enough-candidates b n l =
+      let X = passTo E (run E b .vectors) n in
+      let rows = run-shaped E b .rows in
+      let safe = passTo-safe E (fileOrder E) file (run E b .vectors) n (omega arith) rows (run-safe E (fileOrder E) file b) in
+      enough E (fileOrder E) file (stepOne E X n) (step-one E (fileOrder E) file X n l (passTo-length E (run E b .vectors) n ∙ rows) safe) n l
+
+  -- ---- off the list
+
+  -- a conflicting pair that neither way is ordered is on the list
+  put : (b a e : ℕ) → a < e → e < size E → conflict (event E a) (event E e) ≡ true
+      → ordered E (run E b .vectors) a e ≡ false → ordered E (run E b .vectors) e a ≡ false → OnList E b a e (mark E (recorded E) a e)
+  unfolding listed racePair unordered
+  put b a e k l t p q =
+      inl
+      (entry-in E (run E b .vectors) (recorded E) a e (omega arith) l
+      (subst (λ (n : ℕ). objectOf E a < n) (conflict-cell (E .counts) (event E a) (event E e) t) (object-inside E acc a (omega arith)))
+      (both (both (lt-ltb a e k) t) (both (to-not p) (to-not q))))
+
+  off-list : (b a e : ℕ) → a < e → e < size E → conflict (event E a) (event E e) ≡ true → ((m : ℕ) → ¬ (OnList E b a e m)) → Always E a e
+  off-list b a e k l t none =
+      cases (ordered E (run E b .vectors) a e) (λ p. ordered-always b a e (omega arith) l p)
+      (λ p.
+      cases (ordered E (run E b .vectors) e a)
+      (λ q. let r = file-lower E e a l (omega arith) (ordered-always b e a l (omega arith) q (fileOrder E) file) in absurd (omega arith))
+      (λ q. absurd (none (mark E (recorded E) a e) (put b a e k l t p q))))
+
+  -- ---- sure
+
+  -- where the recorded vectors do not order a pair, both orders are admissible
+  both-ways : (a e : ℕ) → a < e → e < size E → mark E (recorded E) a e ≡ 1 → Sometimes E a e × Sometimes E e a
+  unfolding mark unordered ordered
+  both-ways a e less l m =
+      let apart = of-not (ordered E (recorded E) a e) (first _ (not (ordered E (recorded E) e a)) (is-sure _ m)) in
+      let behind = and-false (not (eqb a e)) (upTo E (recorded E) e a) apart (to-not (ne-eqb a e (λ q. omega arith))) in
+      ((fileOrder E, file, file-precedes E a e less l), (bringForward E (recorded E) e, forward-admissible E acc e l, forward-precedes E acc e l a behind))
+    where
+      is-sure : (b : Bool) → _≡_ {A = ℕ} (cond b 1 0) 1 → b ≡ true
+      is-sure true q = refl
+      is-sure false q = absurd (omega arith)
+
+  sure : (b : ℕ) (p : Entry) → List·Memᴰ p (listed E b) → p .mark ≡ 1 → Sometimes E (p .first) (p .second) × Sometimes E (p .second) (p .first)
+  unfolding listed
+  sure b p m q =
+      let r = entry-of E (run E b .vectors) (recorded E) p m in
+      let (f, g) = both-ways (r .a) (r .e) (pair-lower E (run E b .vectors) (r .a) (r .e) (r .race)) (r .higher) (sym (ap (λ (x : Entry). x .mark) (r .same)) ∙ q) in
+      let u = sym (ap (λ (x : Entry). x .first) (r .same)) in
+      let v = sym (ap (λ (x : Entry). x .second) (r .same)) in
+      (subst₂ (Sometimes E) u v f, subst₂ (Sometimes E) v u g)
+
+-- ---- larger budgets
+
+module _ (E : Recording) where
+  -- ordered before is kept by a larger budget
+  pub ordered-stays : (b d : ℕ) → b ≤ d → (a e : ℕ) → ordered E (run E b .vectors) a e ≡ true → ordered E (run E d .vectors) a e ≡ true
+  ordered-stays b d h = ordered-more E (run E b .vectors) (run E d .vectors) (budget-up E b d h)
+
+  -- an entry of a larger budget is one of the smaller, with its mark
+  entry-stays : (b d : ℕ) → b ≤ d → (p : Entry) → List·Memᴰ p (listed E d) → List·Memᴰ p (listed E b)
+  unfolding listed
+  entry-stays b d h p m =
+      let r = entry-of E (run E d .vectors) (recorded E) p m in
+      let less = pair-lower E (run E d .vectors) (r .a) (r .e) (r .race) in
+      let top = r .higher in
+      subst (λ (q : Entry). List·Memᴰ q (entries E (run E b .vectors) (recorded E))) (sym (r .same))
+      (entry-in E (run E b .vectors) (recorded E) (r .a) (r .e) (omega arith) top (r .cell)
+      (race-more E (run E b .vectors) (run E d .vectors) (budget-up E b d h) (r .a) (r .e) (r .race)))
+
+  adds-none : (b d : ℕ) → b ≤ d → (a e m : ℕ) → OnList E d a e m → OnList E b a e m
+  adds-none b d h a e m (inl k) = inl (entry-stays b d h _ k)
+  adds-none b d h a e m (inr k) = inr (entry-stays b d h _ k)
+
+  -- an entry names the lower event first, and its mark is that of the two
+  entry-mark : (b a e m : ℕ) → List·Memᴰ (record { first = a; second = e; mark = m }) (listed E b) → (a < e) × (m ≡ mark E (recorded E) a e)
+  unfolding listed
+  entry-mark b a e m k =
+      let r = entry-of E (run E b .vectors) (recorded E) (record { first = a; second = e; mark = m }) k in
+      let u = sym (ap (λ (x : Entry). x .first) (r .same)) in
+      let v = sym (ap (λ (x : Entry). x .second) (r .same)) in (
+        subst₂ (λ (x y : ℕ). x < y) u v (pair-lower E (run E b .vectors) (r .a) (r .e) (r .race)),
+        ap (λ (x : Entry). x .mark) (r .same) ∙ subst₂ (λ (x y : ℕ). mark E (recorded E) (r .a) (r .e) ≡ mark E (recorded E) x y) u v refl,
+      )
+
+  one-mark : (b d a e m n : ℕ) → OnList E d a e m → OnList E b a e n → m ≡ n
+  one-mark b d a e m n (inl k) (inl l) = entry-mark d a e m k .1 ∙ sym (entry-mark b a e n l .1)
+  one-mark b d a e m n (inl k) (inr l) = let x = entry-mark d a e m k .0 in let y = entry-mark b e a n l .0 in absurd (omega arith)
+  one-mark b d a e m n (inr k) (inl l) = let x = entry-mark d e a m k .0 in let y = entry-mark b a e n l .0 in absurd (omega arith)
+  one-mark b d a e m n (inr k) (inr l) = entry-mark d e a m k .1 ∙ sym (entry-mark b e a n l .1)
+
+  keeps-list : (b d : ℕ) → b ≤ d → run E b .settled ≡ true → listed E d ≡ listed E b
+  unfolding listed
+  keeps-list b d h q = ap (λ (r : Run). entries E (r .vectors) (recorded E)) (settled-stays E b d h q)
+
+-- ---- the theorem
+
+pub recording-promise : (E : Recording) → Accepted E → (b : ℕ) → Promise E b
+recording-promise E acc b =
+    record {
+      off-list = off-list E acc b;
+      sure = sure E acc b;
+      adds-none = λ d h a e m k. (m, adds-none E b d h a e m k);
+      keeps-marks = λ d h a e m n k l. one-mark E b d a e m n k l;
+      settles = λ h. settles E (fileOrder E) (file-admissible E acc) b (omega arith);
+      keeps-list = λ q d h. keeps-list E b d h q;
+      keeps-passes = λ q d h. ap (λ (r : Run). r .passes) (settled-stays E b d h q);
+    }
+
+pub promise : Promised
+promise f h acc b = recording-promise _ (accepted-recording f h acc) b
