@@ -13,12 +13,8 @@ use Rattle.model.specs.Vectors.{Vectors, number, flat}
 use Rattle.model.specs.Passes.{sameRow, same}
 use Rattle.model.proofs.Tests.{eq-eqb, ne-eqb}
 use Rattle.model.proofs.Lists.{listOf-at, listOf-length}
+use Rattle.model.proofs.Climb.{Shaped}
 use Rattle.vectors.specs.Rows.{chunks, column, ownRow}
-
--- n rows of m numbers
-pub record Shaped (n m : ℕ) (X : Vectors) : Type 0 where
-  pub rows : length X ≡ n
-  pub wide : (e : ℕ) → e < n → length (getD X e []) ≡ m
 
 -- one row is past another
 pub next-row : (a b m : ℕ) → a < b → a * m + m ≤ b * m
@@ -31,12 +27,12 @@ same-numbers {n} {m} {X} {Y} s r h =
     let y = r .rows in
     ext-getD [] X Y (x ∙ sym y) λ e k.
     let l : e < n = omega arith in
-    let u = s .wide e l in
-    let w = r .wide e l in
+    let u = s .row e l in
+    let w = r .row e l in
     ext-getD 0 (getD X e []) (getD Y e []) (u ∙ sym w) (λ t j. h e t l (omega arith))
 
 shaped-tail : {n m : ℕ} {r : List ℕ} {X : Vectors} → Shaped (suc n) m (r ∷ X) → Shaped n m X
-shaped-tail s = record { rows = omega (arith, s .rows); wide = λ e h. s .wide (suc e) (omega arith) }
+shaped-tail s = record { rows = omega (arith, s .rows); row = λ e h. s .row (suc e) (omega arith) }
 
 pub flat-length : (n m : ℕ) (X : Vectors) → Shaped n m X → length (flat X) ≡ n * m
 unfolding flat
@@ -45,7 +41,7 @@ flat-length zero m (r ∷ X) s = absurd (omega (arith, s .rows))
 flat-length (suc n) m [] s = absurd (omega (arith, s .rows))
 flat-length (suc n) m (r ∷ X) s =
     let ih = flat-length n m X (shaped-tail s) in
-    let w : length r ≡ m = s .wide 0 (omega arith) in
+    let w : length r ≡ m = s .row 0 (omega arith) in
     omega (arith, length-append r (flat X), suc-mul n m)
 
 pub chunks-flat : (n m : ℕ) (X : Vectors) → Shaped n m X → chunks n m (flat X) ≡ X
@@ -54,7 +50,7 @@ chunks-flat zero m [] s = refl
 chunks-flat zero m (r ∷ X) s = absurd (omega (arith, s .rows))
 chunks-flat (suc n) m [] s = absurd (omega (arith, s .rows))
 chunks-flat (suc n) m (r ∷ X) s =
-    let w : length r ≡ m = s .wide 0 (omega arith) in
+    let w : length r ≡ m = s .row 0 (omega arith) in
     rw (take-at r (flat X) m w, drop-at r (flat X) m w) (ap (λ (Y : Vectors). r ∷ Y) (chunks-flat n m X (shaped-tail s)))
 
 -- the first row is there, and behind it n others
@@ -82,7 +78,7 @@ chunks-wide (suc n) m l h zero k = length-take-le m l (room n m l h .0)
 chunks-wide (suc n) m l h (suc e) k = chunks-wide n m (drop m l) (room n m l h .1) e (le-of-suc-le-suc k)
 
 pub chunks-shaped : (n m : ℕ) (l : List ℕ) → length l ≡ n * m → Shaped n m (chunks n m l)
-chunks-shaped n m l h = record { rows = chunks-length n m l; wide = chunks-wide n m l h }
+chunks-shaped n m l h = record { rows = chunks-length n m l; row = chunks-wide n m l h }
 
 -- where the number for task t of event s lies; past the last event both are 0
 pub number-chunks : (n m : ℕ) (l : List ℕ) (s t : ℕ) → length l ≡ n * m → t < m → number (chunks n m l) s t ≡ getD l (s * m + t) 0

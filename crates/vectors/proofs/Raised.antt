@@ -14,8 +14,9 @@ use Rattle.model.specs.Numbers.{listOf}
 use Rattle.model.specs.Vectors.{Vectors, number}
 use Rattle.model.proofs.Tests.{cases, compared, tests, last-or-lower, eqb-true, eqb-false}
 use Rattle.model.proofs.Lists.{listOf-at, listOf-length, number-set-same, number-set-other}
+use Rattle.model.proofs.Climb.{Shaped, set-shaped}
 use Rattle.vectors.specs.Rows.{chunks, column, raisedAt, raisedTo}
-use Rattle.vectors.proofs.Chunks.{Shaped, next-row, same-numbers, chunks-shaped, number-chunks, map-same}
+use Rattle.vectors.proofs.Chunks.{next-row, same-numbers, chunks-shaped, number-chunks, map-same}
 
 -- ---- in the flat list
 
@@ -65,26 +66,16 @@ module _ (m : ℕ) (X : Vectors) (e : ℕ) (f : ℕ → ℕ) where
   unfolding raisedTo
   raisedTo-other s t d = number-set-other X e s t _ d
 
--- a row replaced by one of the same length
-pub set-shaped : {n m : ℕ} {X : Vectors} (e : ℕ) (r : List ℕ) → Shaped n m X → length r ≡ m → Shaped n m (set X e r)
-set-shaped {n} {m} {X} e r s k =
-    record {
-      rows = length-set X e r ∙ s .rows;
-      wide = λ a h. cases (eqb a e)
-          (λ t. let q = eqb-true a e t in let x = s .rows in rw (q, getD-set-same X e r [] (omega arith)) k)
-          (λ t. ap length (getD-set-other X e a r [] (eqb-false a e t)) ∙ s .wide a h);
-    }
-
-pub raisedTo-shaped : {n m : ℕ} {X : Vectors} (e : ℕ) (f : ℕ → ℕ) → Shaped n m X → Shaped n m (raisedTo m X e f)
+pub raisedTo-shaped : {n m : ℕ} {X : Vectors} (e : ℕ) (f : ℕ → ℕ) → Shaped n m X → e < n → Shaped n m (raisedTo m X e f)
 unfolding raisedTo
-raisedTo-shaped {n} {m} {X} e f s = set-shaped e _ s (listOf-length (λ t. max (number X e t) (f t)) 0 m)
+raisedTo-shaped {n} {m} {X} e f s h = set-shaped n m X e _ h (listOf-length (λ t. max (number X e t) (f t)) 0 m) s
 
 -- two ways to raise a row to the same numbers
 pub raisedTo-alike : {n m : ℕ} {X : Vectors} (e : ℕ) (f g : ℕ → ℕ) → Shaped n m X → e < n → ((t : ℕ) → t < m → max (number X e t) (f t) ≡ max (number X e t) (g t))
     → raisedTo m X e f ≡ raisedTo m X e g
 raisedTo-alike {n} {m} {X} e f g s h q =
     let x = s .rows in
-    same-numbers (raisedTo-shaped e f s) (raisedTo-shaped e g s) λ a t j k. cases (eqb a e)
+    same-numbers (raisedTo-shaped e f s h) (raisedTo-shaped e g s h) λ a t j k. cases (eqb a e)
     (λ b. rw (eqb-true a e b) (raisedTo-same m X e f t (omega arith) k ∙ q t k ∙ sym (raisedTo-same m X e g t (omega arith) k)))
     (λ b. raisedTo-other m X e f a t (eqb-false a e b) ∙ sym (raisedTo-other m X e g a t (eqb-false a e b)))
 
@@ -92,7 +83,7 @@ raisedTo-alike {n} {m} {X} e f g s h q =
 pub raisedTo-none : {n m : ℕ} {X : Vectors} (e : ℕ) (f : ℕ → ℕ) → Shaped n m X → e < n → ((t : ℕ) → t < m → f t ≤ number X e t) → raisedTo m X e f ≡ X
 raisedTo-none {n} {m} {X} e f s h q =
     let x = s .rows in
-    same-numbers (raisedTo-shaped e f s) s λ a t j k. cases (eqb a e)
+    same-numbers (raisedTo-shaped e f s h) s λ a t j k. cases (eqb a e)
     (λ b. rw (eqb-true a e b) (raisedTo-same m X e f t (omega arith) k ∙ max-eq-left (q t k)))
     (λ b. raisedTo-other m X e f a t (eqb-false a e b))
 
@@ -103,7 +94,7 @@ chunks-raised n m l e f h p =
     let s = chunks-shaped n m l h in
     let x = s .rows in
     let h′ : length (raisedAt l (e * m) f m) ≡ n * m = raised-length l (e * m) f m ∙ h in
-    same-numbers (chunks-shaped n m (raisedAt l (e * m) f m) h′) (raisedTo-shaped e f s) λ a t j k.
+    same-numbers (chunks-shaped n m (raisedAt l (e * m) f m) h′) (raisedTo-shaped e f s p) λ a t j k.
     number-chunks n m (raisedAt l (e * m) f m) a t h′ k
     ∙ compared a e
     (λ d. raised-outside l (e * m) f m (a * m + t) (inl (omega (arith, next-row a e m d))) ∙ other a t k (λ q. omega arith))
