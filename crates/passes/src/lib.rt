@@ -15,7 +15,8 @@ ghost use Rattle.model.specs.Recorded.{matched, recorded};
 ghost use Rattle.vectors.specs.Rows.{Rose};
 ghost use Rattle.passes.specs.Lent.{vectorsIn, Fitting, Numbered, Records, Placed, firstFound, Below, Inside, raisedFound};
 ghost use Rattle.passes.specs.Steps.{firstRow, taken, waitBefore, candidate, candidatesOn, waited, stepTwo, raisedEvent, recordedEvent};
-use model::{Counts, Found};
+use model::Counts;
+use model::Found;
 
 // How many passes were made, and whether the last one was quiet.
 pub struct Outcome {
@@ -109,7 +110,15 @@ fn step_one(recs: &[u8], counts: Counts, e: usize, v: &mut [u16]) -> bool
 }
 
 // Whether w is a wait on semaphore s that the vectors order before event e.
-fn is_wait_before(recs: &[u8], counts: Counts, at: &[u16], v: &[u16], w: usize, e: usize, s: u16) -> bool
+fn is_wait_before(
+    recs: &[u8],
+    counts: Counts,
+    at: &[u16],
+    v: &[u16],
+    w: usize,
+    e: usize,
+    s: u16,
+) -> bool
     requires { ⌜ Placed (now recs) counts (now at) × Fitting (now recs) counts (now v) ⌝ }
     requires { ⌜ Numbered (now recs) w × Numbered (now recs) e ⌝ }
     ensures { λ r. ⌜ r ≡ waitBefore (recordingBy (now (recs .entry)) counts) (vectorsIn (now (recs .entry)) counts (now (v .entry))) e s w ⌝ }
@@ -121,7 +130,15 @@ fn is_wait_before(recs: &[u8], counts: Counts, at: &[u16], v: &[u16], w: usize, 
 }
 
 // Whether a is a signal on semaphore s that the vectors do not order after event e.
-fn is_candidate(recs: &[u8], counts: Counts, at: &[u16], v: &[u16], a: usize, e: usize, s: u16) -> bool
+fn is_candidate(
+    recs: &[u8],
+    counts: Counts,
+    at: &[u16],
+    v: &[u16],
+    a: usize,
+    e: usize,
+    s: u16,
+) -> bool
     requires { ⌜ Placed (now recs) counts (now at) × Fitting (now recs) counts (now v) ⌝ }
     requires { ⌜ Numbered (now recs) a × Numbered (now recs) e ⌝ }
     ensures { λ r. ⌜ r ≡ candidate (recordingBy (now (recs .entry)) counts) (vectorsIn (now (recs .entry)) counts (now (v .entry))) e s a ⌝ }
@@ -150,7 +167,15 @@ fn needed(recs: &[u8], counts: Counts, at: &[u16], v: &[u16], e: usize, s: u16) 
 }
 
 // Writes the candidates of a wait e on semaphore s. Answers how many they are.
-fn candidates(recs: &[u8], counts: Counts, at: &[u16], v: &[u16], e: usize, s: u16, out: &mut [u16]) -> usize
+fn candidates(
+    recs: &[u8],
+    counts: Counts,
+    at: &[u16],
+    v: &[u16],
+    e: usize,
+    s: u16,
+    out: &mut [u16],
+) -> usize
     requires { ⌜ Placed (now recs) counts (now at) × Fitting (now recs) counts (now v) × Numbered (now recs) e ⌝ }
     requires { ⌜ 1024 ≤ length (now out) ⌝ }
     ensures { λ r. ⌜ r ≡ length (candidatesOn (recordingBy (now (recs .entry)) counts) (vectorsIn (now (recs .entry)) counts (now (v .entry))) e s) ⌝ }

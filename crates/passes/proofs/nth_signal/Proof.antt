@@ -30,9 +30,11 @@ unfolding signalsOn
 returns c =
     let r = c .before .before .before .before .before .before .args in
     let k = c .before .before .before .before .loop in
-    let l = length (eventsOf (r .recs .now)) in
-    (λ c′. nth-here (λ a. isOn 1 (r .s) (getD (eventsOf (r .recs .now)) a noEvent)) l (r .k) (k .a) (omega arith)
-        (sym (c .before .before .is-on .ensures) ∙ c .before .if1 .taken) (sym (k .inv .3) ∙ c .if2 .taken), omega arith)
+    let l = length (eventsOf (r .recs .now)) in (
+      λ c′. nth-here (λ a. isOn 1 (r .s) (getD (eventsOf (r .recs .now)) a noEvent)) l (r .k) (k .a) (omega arith)
+          (sym (c .before .before .is-on .ensures) ∙ c .before .if1 .taken) (sym (k .inv .3) ∙ c .if2 .taken),
+      omega arith,
+    )
 
 loop-again : tie.Need-loop-again Inv-loop μ-loop
 loop-again c =

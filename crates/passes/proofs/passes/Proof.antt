@@ -1,50 +1,62 @@
+-- passes meets its contract: so far as many passes were made as are counted, and none of them was quiet.
+-- Assumes nothing.
+use mathlib.Core.Path.{_≡_, refl, sym, ap, _∙_}
+use Prim.Native.Nat.{ℕ, _+_, _-_, _≤_, _<_}
+use native.Mathlib.Omega.{arith}
+use lib.ListN.{length}
+use Rattle.model.specs.Recording.{size}
+use Rattle.model.specs.File.{recordingBy}
+use Rattle.model.specs.Vectors.{start}
+use Rattle.model.proofs.Climb.{start-shaped}
+use Rattle.vectors.specs.Rows.{chunks}
+use Rattle.vectors.proofs.Chunks.{chunks-flat}
+use Rattle.passes.specs.Lent.{vectorsIn, Fitting}
+use Rattle.passes.proofs.Runs.{Made, quiet, made-none, made-more, made-quiet, made-spent, numbers-of}
 use Rattle.passes.proofs.passes.Statement.{statement}
 use Rattle.passes.proofs.passes.Tie as tie
-use Rattle.passes.proofs.passes.Reads as reads
-use Rattle.passes.proofs.passes.Lts as lts
-use Rattle.passes.proofs.pass.Reads as pass-reads
 
 abbrev Inv-loop : tie.InvT-loop
-Inv-loop recs counts at budget v₀ made₀ v made = ?
+Inv-loop recs counts at budget v₀ made₀ v made = Fitting recs counts v × (made ≤ budget) × Made (recordingBy recs counts) made (vectorsIn recs counts v)
 
 abbrev μ-loop : tie.MeasureT-loop
-μ-loop recs counts at budget v₀ made₀ v made = ?
+μ-loop recs counts at budget v₀ made₀ v made = budget - made
 
--- src/lib.rt:266:5
 loop-holds : tie.Need-loop-holds Inv-loop μ-loop
-loop-holds c = ?
+loop-holds c =
+    let s = c .before .before .before in
+    let a = s .args in
+    let E = recordingBy (a .recs .now) (a .counts) in
+    (s .pre .0 .1, omega arith, made-none E _ (ap (chunks (size E) (a .counts .tasks)) (s .pre .1) ∙ chunks-flat (size E) (a .counts .tasks) (start E) (start-shaped E)))
 
--- src/lib.rt:267:13
-pass-requires : tie.Need-pass-requires Inv-loop μ-loop
-pass-requires c κs = ?
-
--- src/lib.rt:268:9
-add-made : tie.Need-add-made Inv-loop μ-loop
-add-made c = ?
-
--- src/lib.rt:270:13
-same-length : tie.Need-same-length Inv-loop μ-loop
-same-length c = ?
-
--- src/lib.rt:270:13
 returns : tie.Need-returns Inv-loop μ-loop
-returns c = ?
+returns c =
+    let a = c .before .before .before .before .before .before .before .before .before .before .args in
+    let k = c .before .before .before .before .before .before .loop in
+    let f = c .before .before .before .pass in
+    let E = recordingBy (a .recs .now) (a .counts) in
+    let l = f .last .1 .1 .1 .0 in
+    let h = f .kept .1 .1 .1 .0 ∙ k .inv .0 in
+    let q = quiet (size E) (a .counts .tasks) (k .v) l (f .result) (k .inv .0) h (f .ensures .1) in
+    let r = made-quiet E (k .made) _ _ (k .inv .2) (f .ensures .0) (a .budget) (omega arith) (q ∙ c .if1 .taken) in
+    (r .0, (r .1, numbers-of (size E) (a .counts .tasks) l _ h (r .2)))
 
--- src/lib.rt:266:5
-loop-less : tie.Need-loop-less Inv-loop μ-loop
-loop-less c = ?
-
--- src/lib.rt:266:5
 loop-again : tie.Need-loop-again Inv-loop μ-loop
-loop-again c = ?
+loop-again c =
+    let a = c .before .before .before .before .before .before .before .before .before .before .args in
+    let k = c .before .before .before .before .before .before .loop in
+    let f = c .before .before .before .pass in
+    let E = recordingBy (a .recs .now) (a .counts) in
+    let h = f .kept .1 .1 .1 .0 ∙ k .inv .0 in
+    let q = quiet (size E) (a .counts .tasks) (k .v) (f .last .1 .1 .1 .0) (f .result) (k .inv .0) h (f .ensures .1) in
+    (h, omega arith, made-more E (k .made) _ _ (k .inv .2) (f .ensures .0) (q ∙ c .if1 .left))
 
--- src/lib.rt:258:1
-same-length-2 : tie.Need-same-length-2 Inv-loop μ-loop
-same-length-2 c = ?
-
--- src/lib.rt:258:1
 returns-2 : tie.Need-returns-2 Inv-loop μ-loop
-returns-2 c = ?
+returns-2 c =
+    let a = c .before .before .before .before .before .args in
+    let k = c .before .loop in
+    let E = recordingBy (a .recs .now) (a .counts) in
+    let r = made-spent E (k .made) (a .budget) _ (k .inv .2) (omega arith) in
+    (r .0, (r .1, numbers-of (size E) (a .counts .tasks) (k .v) _ (k .inv .0) (r .2)))
 
 pub passes-spec : {M : Type 1} → statement M
 passes-spec =
@@ -53,11 +65,11 @@ passes-spec =
     Inv-loop
     μ-loop
     loop-holds
-    pass-requires
-    add-made
-    same-length
+    (λ c κs. (c .before .before .before .before .before .before .pre .0 .0, c .before .before .loop .inv .0))
+    (λ c. omega arith)
+    (λ c. omega arith)
     returns
-    loop-less
+    (λ c. omega arith)
     loop-again
-    same-length-2
+    (λ c. omega arith)
     returns-2)

@@ -21,9 +21,11 @@ returns c =
     let s = c .before .before .before .before .before in
     let E = recordingBy (s .args .recs .now) (s .args .counts) in
     let l = s .args .v .now in
-    let d = ap (λ (v : Event). v .kind) (c .before .before .event-at .ensures) in
-    (join-other E (vectorsIn (s .args .recs .now) (s .args .counts) l) (s .args .e) (chunks-shaped (size E) (s .args .counts .tasks) l (s .pre .1)) (s .pre .2)
-        (λ q. c .if1 .taken (d ∙ q)), rose-none l)
+    let d = ap (λ (v : Event). v .kind) (c .before .before .event-at .ensures) in (
+      join-other E (vectorsIn (s .args .recs .now) (s .args .counts) l) (s .args .e) (chunks-shaped (size E) (s .args .counts .tasks) l (s .pre .1)) (s .pre .2)
+          (λ q. c .if1 .taken (d ∙ q)),
+      rose-none l,
+    )
 
 raise-found-requires : tie.Need-raise-found-requires
 raise-found-requires c κs =

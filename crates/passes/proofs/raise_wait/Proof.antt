@@ -1,58 +1,72 @@
+-- raise_wait meets its contract: the part lent on is the candidates.
+-- Assumes nothing.
+use mathlib.Core.Path.{_≡_, sym, ap, _∙_}
+use mathlib.Core.List.{List}
+use Prim.Native.Nat.{ℕ, _≤_, _<_}
+use native.Mathlib.Omega.{arith}
 use borrow.Author.Needs.{needs}
+use lib.ListN.{length, take}
+use lib.Seq.{take-at}
+use Rattle.model.specs.Recording.{size}
+use Rattle.model.specs.File.{recordingBy}
+use Rattle.vectors.specs.Rows.{chunks}
+use Rattle.vectors.proofs.Chunks.{next-row}
+use Rattle.passes.specs.Lent.{vectorsIn}
+use Rattle.passes.specs.Steps.{candidatesOn}
+use Rattle.passes.proofs.Waits.{candidates-few, candidates-below, chunks-waited}
 use Rattle.passes.proofs.raise_wait.Statement.{statement}
 use Rattle.passes.proofs.raise_wait.Tie as tie
-use Rattle.passes.proofs.raise_wait.Reads as reads
-use Rattle.passes.proofs.raise_wait.Lts as lts
-use Rattle.passes.proofs.candidates.Reads as candidates-reads
-use Rattle.passes.proofs.needed.Reads as needed-reads
-use Rattle.vectors.proofs.raise_to_kth.Reads as raise-to-kth-reads
 
--- src/lib.rt:181:51
-slice-aggregate-candidates : tie.Need-slice-aggregate-candidates
-slice-aggregate-candidates c = search needs
+-- the candidates, as the definition has them
+abbrev listed : tie.After-candidates → List ℕ
+listed c =
+    let a = c .before .before .before .before .before .before .args in
+    candidatesOn (recordingBy (a .recs .now) (a .counts)) (vectorsIn (a .recs .now) (a .counts) (a .v .now)) (a .e) (a .s)
 
--- src/lib.rt:181:9
-candidates-requires : tie.Need-candidates-requires
-candidates-requires c κs = search needs
+the-found : (c : tie.After-candidates) → take (c .candidates .result) (c .candidates .last .1 .1 .1 .1 .1 .1 .0) ≡ listed c
+the-found c = ap (take (c .candidates .result)) (c .candidates .ensures .1) ∙ take-at (listed c) _ _ (sym (c .candidates .ensures .0))
 
--- src/lib.rt:182:9
-needed-requires : tie.Need-needed-requires
-needed-requires c κs = search needs
+few : (c : tie.After-candidates) → c .candidates .result ≤ 1024
+few c =
+    let s = c .before .before .before .before .before .before in
+    let a = s .args in
+    omega (arith, c .candidates .ensures .0, candidates-few (recordingBy (a .recs .now) (a .counts)) (vectorsIn (a .recs .now) (a .counts) (a .v .now)) (a .e) (a .s), s .pre .0 .records .few)
 
--- src/lib.rt:183:17
-cast-tasks : tie.Need-cast-tasks
-cast-tasks c = search needs
-
--- src/lib.rt:184:40
-array-share-prefix-found : tie.Need-array-share-prefix-found
-array-share-prefix-found c = ?
-
--- src/lib.rt:184:40
-slice-aggregate-raise-to-kth : tie.Need-slice-aggregate-raise-to-kth
-slice-aggregate-raise-to-kth c = ?
-
--- src/lib.rt:184:5
 raise-to-kth-requires : tie.Need-raise-to-kth-requires
-raise-to-kth-requires c κs = ?
+raise-to-kth-requires c κs =
+    let d = c .before .before .before .before .before .before in
+    let s = c .before .before .before .before .before .before .before .before .before .before .before .before in
+    let a = s .args in
+    let E = recordingBy (a .recs .now) (a .counts) in
+    let X = vectorsIn (a .recs .now) (a .counts) (a .v .now) in
+    let m = a .counts .tasks in
+    rw (the-found d) (
+      (omega (arith, next-row (a .e) (size E) m (s .pre .2), s .pre .1), omega (arith, few d, d .candidates .ensures .0)),
+      λ i h. omega (arith, next-row _ (size E) m (candidates-below E X (a .e) (a .s) i h), s .pre .1),
+    )
 
--- src/lib.rt:174:1
-same-length : tie.Need-same-length
-same-length c = search needs
-
--- src/lib.rt:174:1
 returns : tie.Need-returns
-returns c = ?
+returns c =
+    let d = c .before .before .before .before .before .before .before .before .before in
+    let s = c .before .before .before .before .before .before .before .before .before .before .before .before .before .before .before in
+    let a = s .args in
+    let E = recordingBy (a .recs .now) (a .counts) in
+    let f = c .before .before .raise-to-kth in (
+      ap (chunks (size E) (a .counts .tasks)) (f .ensures .0)
+          ∙ chunks-waited E (a .v .now) (a .e) (a .s) (c .before .before .before .before .before .before .needed .result) _ (s .pre .1) (s .pre .2) (c .before .before .before .before .before .before .needed .ensures) (the-found d),
+      f .ensures .1,
+    )
 
 pub raise-wait-spec : {M : Type 1} → statement M
 raise-wait-spec =
     tie.close
     (tie.spec
-    slice-aggregate-candidates
-    candidates-requires
-    needed-requires
-    cast-tasks
-    array-share-prefix-found
-    slice-aggregate-raise-to-kth
+    (λ c. search needs)
+    (λ c κs. (c .before .before .before .before .before .pre, search needs))
+    (λ c κs. c .before .before .before .before .before .before .before .before .pre)
+    (λ c. search needs)
+    (λ c. omega (arith, few (c .before .before .before .before .before)))
+    (λ c. c .before .before .before .before .before .before .candidates .ensures .0 ∙ ap length (sym (the-found (c .before .before .before .before .before .before))))
     raise-to-kth-requires
-    same-length
+    (λ c. omega arith)
     returns)

@@ -1,62 +1,56 @@
+-- record meets its contract: exactly the vectors' part is lent on.
+-- Assumes nothing.
+use mathlib.Core.Path.{_≡_, sym, ap, ap₂, _∙_}
+use mathlib.Core.List.{List, _++_}
+use Prim.Native.Nat.{ℕ, _/_, _*_, _≤_}
+use native.Mathlib.Omega.{arith}
 use borrow.Author.Needs.{needs}
+use lib.ListN.{length, take, drop}
+use lib.Seq.{length-take-le}
+use Rattle.model.specs.Recording.{size}
+use Rattle.model.specs.File.{recordingBy}
+use Rattle.passes.specs.Lent.{Placed}
+use Rattle.passes.proofs.Starts.{all-placed}
 use Rattle.passes.proofs.record.Statement.{statement}
 use Rattle.passes.proofs.record.Tie as tie
-use Rattle.passes.proofs.record.Reads as reads
-use Rattle.passes.proofs.record.Lts as lts
-use Rattle.events.proofs.positions.Reads as positions-reads
-use Rattle.passes.proofs.record_all.Reads as record-all-reads
 
--- src/lib.rt:363:29
-slice-aggregate-positions : tie.Need-slice-aggregate-positions
-slice-aggregate-positions c = search needs
+-- N, and N × T
+events : (c : tie.After-positions) → length (c .before .before .before .before .args .recs .now) / 4 ≡ size (recordingBy (c .before .before .before .before .args .recs .now) (c .before .before .before .before .args .counts))
+events c = omega (arith, c .before .before .before .before .pre .0 .whole)
 
--- src/lib.rt:363:5
-positions-requires : tie.Need-positions-requires
-positions-requires c κs = search needs
+numbers : (c : tie.After-positions) → length (c .before .before .before .before .args .recs .now) / 4 * c .before .before .before .before .args .counts .tasks
+    ≡ size (recordingBy (c .before .before .before .before .args .recs .now) (c .before .before .before .before .args .counts)) * c .before .before .before .before .args .counts .tasks
+numbers c = ap (λ (n : ℕ). n * c .before .before .before .before .args .counts .tasks) (events c)
 
--- src/lib.rt:364:17
-cast-tasks : tie.Need-cast-tasks
-cast-tasks c = search needs
+fits : (c : tie.After-positions) → length (c .before .before .before .before .args .recs .now) / 4 * c .before .before .before .before .args .counts .tasks ≤ length (c .before .before .before .before .args .v .now)
+fits c = omega (arith, numbers c, c .before .before .before .before .pre .1)
 
--- src/lib.rt:365:14
-mul-nt : tie.Need-mul-nt
-mul-nt c = ?
+part-length : (c : tie.After-positions) → length (take (length (c .before .before .before .before .args .recs .now) / 4 * c .before .before .before .before .args .counts .tasks) (c .before .before .before .before .args .v .now))
+    ≡ length (c .before .before .before .before .args .recs .now) / 4 * c .before .before .before .before .args .counts .tasks
+part-length c = length-take-le _ (c .before .before .before .before .args .v .now) (fits c)
 
--- src/lib.rt:366:30
-slice-aggregate-record-all : tie.Need-slice-aggregate-record-all
-slice-aggregate-record-all c = search needs
+placed : (c : tie.After-positions) → Placed (c .before .before .before .before .args .recs .now) (c .before .before .before .before .args .counts) (c .positions .last .1 .0)
+placed c =
+    let s = c .before .before .before .before in
+    let r = s .args .recs .now in
+    all-placed r (s .args .counts) (c .positions .last .1 .0) _ (length r / 4) (s .pre .0) (events c) (omega (arith, s .pre .0 .few)) (c .positions .ensures (s .args .counts))
 
--- src/lib.rt:366:35
-slice-relend-prefix-record-all : tie.Need-slice-relend-prefix-record-all
-slice-relend-prefix-record-all c = ?
-
--- src/lib.rt:366:35
-slice-aggregate-record-all-2 : tie.Need-slice-aggregate-record-all-2
-slice-aggregate-record-all-2 c = ?
-
--- src/lib.rt:366:5
-record-all-requires : tie.Need-record-all-requires
-record-all-requires c κs = ?
-
--- src/lib.rt:357:1
-same-length : tie.Need-same-length
-same-length c = search needs
-
--- src/lib.rt:357:1
 returns : tie.Need-returns
-returns c = ?
+returns c =
+    let a = c .before .before .before .before .before .before .before .before .before .before .before .args in
+    ap₂ _++_ (c .before .before .record-all .ensures) (ap (λ (n : ℕ). drop n (a .v .now)) (numbers (c .before .before .before .before .before .before .before)))
 
 pub record-spec : {M : Type 1} → statement M
 record-spec =
     tie.close
     (tie.spec
-    slice-aggregate-positions
-    positions-requires
-    cast-tasks
-    mul-nt
-    slice-aggregate-record-all
-    slice-relend-prefix-record-all
-    slice-aggregate-record-all-2
-    record-all-requires
-    same-length
+    (λ c. search needs)
+    (λ c κs. omega (arith, c .before .before .before .pre .0 .whole, c .before .before .before .pre .0 .few))
+    (λ c. search needs)
+    (λ c. omega (arith, fits (c .before .before)))
+    (λ c. search needs)
+    (λ c. fits (c .before .before .before))
+    (λ c. sym (part-length (c .before .before .before .before)))
+    (λ c κs. (placed (c .before .before .before .before), part-length (c .before .before .before .before) ∙ numbers (c .before .before .before .before)))
+    (λ c. omega arith)
     returns)

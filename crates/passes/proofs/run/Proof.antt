@@ -1,53 +1,33 @@
+-- run meets its contract: the positions are filled, the starting vectors written, and then the passes made.
+-- Assumes nothing.
+use mathlib.Core.Path.{_≡_, sym, ap, _∙_}
+use Prim.Native.Nat.{ℕ, _/_, _≤_}
+use native.Mathlib.Omega.{arith}
 use borrow.Author.Needs.{needs}
+use lib.ListN.{length}
+use Rattle.model.specs.Recording.{size}
+use Rattle.model.specs.File.{recordingBy}
+use Rattle.passes.specs.Lent.{Placed}
+use Rattle.passes.proofs.Starts.{all-placed}
 use Rattle.passes.proofs.run.Statement.{statement}
 use Rattle.passes.proofs.run.Tie as tie
-use Rattle.passes.proofs.run.Reads as reads
-use Rattle.passes.proofs.run.Lts as lts
-use Rattle.events.proofs.positions.Reads as positions-reads
-use Rattle.passes.proofs.passes.Reads as passes-reads
-use Rattle.passes.proofs.start.Reads as start-reads
 
--- src/lib.rt:290:29
-slice-aggregate-positions : tie.Need-slice-aggregate-positions
-slice-aggregate-positions c = search needs
-
--- src/lib.rt:290:5
-positions-requires : tie.Need-positions-requires
-positions-requires c κs = search needs
-
--- src/lib.rt:291:25
-slice-aggregate-start : tie.Need-slice-aggregate-start
-slice-aggregate-start c = search needs
-
--- src/lib.rt:291:5
-start-requires : tie.Need-start-requires
-start-requires c κs = ?
-
--- src/lib.rt:292:26
-slice-aggregate-passes : tie.Need-slice-aggregate-passes
-slice-aggregate-passes c = search needs
-
--- src/lib.rt:292:5
-passes-requires : tie.Need-passes-requires
-passes-requires c κs = ?
-
--- src/lib.rt:283:1
-same-length : tie.Need-same-length
-same-length c = search needs
-
--- src/lib.rt:283:1
-returns : tie.Need-returns
-returns c = search needs
+placed : (c : tie.After-positions) → Placed (c .before .before .before .before .args .recs .now) (c .before .before .before .before .args .counts) (c .positions .last .1 .0)
+placed c =
+    let s = c .before .before .before .before in
+    let r = s .args .recs .now in
+    let n : length (s .args .recs .now) / 4 ≡ size (recordingBy (s .args .recs .now) (s .args .counts)) = omega (arith, s .pre .0 .whole) in
+    all-placed r (s .args .counts) (c .positions .last .1 .0) _ (length r / 4) (s .pre .0) n (omega (arith, s .pre .0 .few)) (c .positions .ensures (s .args .counts))
 
 pub run-spec : {M : Type 1} → statement M
 run-spec =
     tie.close
     (tie.spec
-    slice-aggregate-positions
-    positions-requires
-    slice-aggregate-start
-    start-requires
-    slice-aggregate-passes
-    passes-requires
-    same-length
-    returns)
+    (λ c. search needs)
+    (λ c κs. omega (arith, c .before .before .before .pre .0 .whole, c .before .before .before .pre .0 .few))
+    (λ c. search needs)
+    (λ c κs. (placed (c .before .before .before), c .before .before .before .before .before .before .before .pre .1))
+    (λ c. search needs)
+    (λ c κs. ((placed (c .before .before .before .before .before .before .before .before), c .before .before .before .before .start .kept .1 .1 .1 .0 ∙ c .before .before .before .before .before .before .before .before .before .before .before .before .pre .1), c .before .before .before .before .start .ensures))
+    (λ c. omega arith)
+    (λ c. c .before .before .passes .ensures))
