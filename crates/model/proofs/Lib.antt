@@ -20,4 +20,6 @@ pub mod Forward
 pub mod Listed
 pub mod Files
 pub mod Promise
+pub mod RoundTrip
 pub mod Starred
+pub mod Instance

@@ -12,4 +12,5 @@ pub mod Pairs
 pub mod Analysing
 pub mod Question
 pub mod Writing
+pub mod RoundTrip
 pub mod Promise
