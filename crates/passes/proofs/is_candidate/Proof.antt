@@ -8,7 +8,7 @@ use Rattle.passes.proofs.is_candidate.Statement.{statement}
 use Rattle.passes.proofs.is_candidate.Tie as tie
 
 ordered-requires : tie.Need-ordered-requires
-ordered-requires c κs = let p = c .before .before .before .before .before .pre in (p .0, (p .1 .1, p .1 .0))
+ordered-requires c κs = let p = c .before .before .before .before .before .pre in (p .0, (omega arith, omega arith))
 
 pub is-candidate-spec : {M : Type 1} → statement M
 is-candidate-spec =

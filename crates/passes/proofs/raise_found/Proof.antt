@@ -12,7 +12,8 @@ use Rattle.passes.proofs.raise_found.Tie as tie
 raise-row-requires : tie.Need-raise-row-requires
 raise-row-requires c κs =
     let s = c .before .before .before .before .before in
-    (s .pre .0, rw (c .before .before .from .given .1) at (s .pre .1))
+    let q = rw (c .before .before .from .given .1) at (s .pre .1) in
+    (omega arith, omega arith)
 
 returns : tie.Need-returns
 returns c =
