@@ -1,17 +1,15 @@
 -- What the searches over the records find: below which number it lies, and the signal that matches a wait.
 -- Assumes nothing.
-use Prim.Native.Nat.{ℕ, zero, suc, _+_, _*_, _≤_, _<_}
+use Prim.Native.Nat.{ℕ, zero, suc, _+_, _≤_, _<_}
 use mathlib.Core.Path.{_≡_, refl, sym, ap, ap₂, subst, _∙_}
-use mathlib.Core.Bool.{Bool, true, false}
-use mathlib.Core.List.{List, []}
-use native.Mathlib.Nat.{le-refl}
+use mathlib.Core.Bool.{Bool, true}
+use mathlib.Core.List.{List}
 use native.Mathlib.Omega.{arith}
-use lib.Dec.{eqb}
 use lib.ListN.{length, getD, take}
 use Rattle.model.specs.declared.Event.{Event}
 use Rattle.model.specs.declared.Found.{Found}
 use Rattle.model.specs.Numbers.{bit, sum, tally, count, picked, lastOf, nth}
-use Rattle.model.specs.Recording.{Recording, size, event, noEvent, taskOf, kindOf, objectOf, ofTask, isOn, isWait, isSignal}
+use Rattle.model.specs.Recording.{Recording, size, event, noEvent, taskOf, kindOf, objectOf, ofTask, isOn}
 use Rattle.model.specs.Passes.{previous, signalsOn}
 use Rattle.model.specs.Recorded.{waitsBefore, matched}
 use Rattle.model.proofs.Tests.{eq-eqb, ne-eqb}
