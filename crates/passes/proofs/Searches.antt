@@ -26,10 +26,6 @@ last-below p n = go (lastOf p n) refl
     go (Found.At x) q = last-some p n x q .inside
     go Found.Nothing q = tt
 
-pub below-more : (m n : ℕ) (f : Found) → m ≤ n → Below m f → Below n f
-below-more m n (Found.At x) h b = omega arith
-below-more m n Found.Nothing h b = tt
-
 -- a search by what is known of an event, and where it looked
 pub searched : (P : Event → ℕ → Bool) (v w : Event) (n m : ℕ) (r : Found) → r ≡ lastOf (P v) n → v ≡ w → n ≡ m → r ≡ lastOf (P w) m
 searched P v w n m r q p h = q ∙ ap₂ (λ (u : Event) (k : ℕ). lastOf (P u) k) p h
@@ -45,13 +41,6 @@ before-at E e a f g p q =
 
 pub before-none : (E : Recording) (e : ℕ) (f g : Found) → f ≡ previous E e → f ≡ Found.Nothing → g ≡ firstFound (previous E e) g
 before-none E e f g p q = sym (ap (λ (m : Found). firstFound m g) (sym p ∙ q))
-
-pub nth-below : (p : ℕ → Bool) (n k : ℕ) → Below n (nth (picked p n) k)
-nth-below p n k = go (nth (picked p n) k) refl
-  where
-    go : (m : Found) → nth (picked p n) k ≡ m → Below n m
-    go (Found.At x) q = nth-of p n k x q .0
-    go Found.Nothing q = tt
 
 -- the number of rank k
 pub nth-here : (p : ℕ → Bool) (n k a : ℕ) → a < n → p a ≡ true → tally p a ≡ k → Found.At a ≡ nth (picked p n) k
