@@ -3,9 +3,11 @@ use mathlib.Core.Path.{_≡_, refl, sym, ap, _∙_}
 use mathlib.Core.Bool.{Bool, true, false}
 use mathlib.Core.List.{List, [], _∷_, _++_}
 use Prim.Native.Nat.{ℕ, zero, suc, _+_, _-_, _*_, _/_, _≤_, _<_}
-use native.Mathlib.Nat.{add-zero, add-suc, suc-add, zero-add, not-suc-le-zero, le-of-suc-le-suc}
+use native.Mathlib.Nat.{zero-add}
 use native.Mathlib.Numerals.{add-one}
 use native.Mathlib.Omega.{arith}
+use borrow.Author.Tests.{ne-eqb}
+use lib.Dec.{eqb}
 use lib.ListN.{length, getD, take, drop, set}
 use lib.Seq.{take-suc, sets, sets-eq}
 use Rattle.model.specs.declared.Event.{Event}
@@ -15,30 +17,19 @@ use Rattle.model.specs.Numbers.{bit, sum, tally, count, listFrom, listOf, lastO
 use Rattle.model.specs.Recording.{noEvent, ofTask}
 use Rattle.model.specs.File.{eventAt, eventsOf, recordingBy}
 use Rattle.model.specs.Vectors.{position}
-
--- ---- lists given by a function
-
-module _ {A : Type 0} (f : ℕ → A) where
-  from-length : (i n : ℕ) → length (listFrom f i n) ≡ n
-  unfolding listFrom
-  from-length i zero = refl
-  from-length i (suc n) = ap suc (from-length (suc i) n)
-
-  from-at : (d : A) (i n j : ℕ) → j < n → getD (listFrom f i n) j d ≡ f (i + j)
-  unfolding listFrom
-  from-at d i zero j h = absurd (not-suc-le-zero h)
-  from-at d i (suc n) zero h = ap f (sym (add-zero i))
-  from-at d i (suc n) (suc j) h = from-at d (suc i) n j (le-of-suc-le-suc h) ∙ ap f (suc-add i j ∙ sym (add-suc i j))
+use Rattle.model.proofs.Tests.{cases}
+use Rattle.model.proofs.Lists.{listOf-length, listOf-at}
+use Rattle.model.proofs.Counting.{count-append}
 
 -- ---- the events
 
 pub events-length : (s : List ℕ) → length (eventsOf s) ≡ length s / 4
 unfolding eventsOf
-events-length s = from-length (eventAt s) 0 (length s / 4)
+events-length s = listOf-length (eventAt s) noEvent (length s / 4)
 
 pub event-at : (s : List ℕ) (e : ℕ) → e < length s / 4 → getD (eventsOf s) e noEvent ≡ eventAt s e
 unfolding eventsOf
-event-at s e h = from-at (eventAt s) noEvent 0 (length s / 4) e h ∙ ap (eventAt s) (zero-add e)
+event-at s e h = listOf-at (eventAt s) noEvent (length s / 4) e h
 
 pub task-at : (s : List ℕ) (e : ℕ) → e < length s / 4 → getD (eventsOf s) e noEvent .task ≡ getD s (4 * e) 0
 unfolding eventAt
@@ -46,24 +37,19 @@ task-at s e h = rw (event-at s e h)
 
 -- ---- counts over the first elements of a list
 
-count-append : {A : Type 0} (p : A → Bool) (l m : List A) → count p (l ++ m) ≡ count p l + count p m
+pub count-suc : {A : Type 0} (p : A → Bool) (l : List A) (d : A) (n : ℕ) → n < length l
+    → count p (take (suc n) l) ≡ count p (take n l) + bit (p (getD l n d))
 unfolding count
-count-append p [] m = omega arith
-count-append p (x ∷ l) m = omega (arith, count-append p l m)
-
-pub count-more : {A : Type 0} (p : A → Bool) (l : List A) (d : A) (n : ℕ) → n < length l
-    → count p (take (n + 1) l) ≡ count p (take n l) + bit (p (getD l n d))
-unfolding count
-count-more p l d n h = rw (add-one n, take-suc l n d h) (count-append p (take n l) (getD l n d ∷ []) ∙ omega arith)
+count-suc p l d n h = rw (take-suc l n d h) (count-append p (take n l) (getD l n d ∷ []) ∙ omega arith)
 
 -- a loop's turn: m of the first n, and the outcome b of the test of the next
 pub count-step : {A : Type 0} (p : A → Bool) (l : List A) (d v : A) (n m : ℕ) (b : Bool) → n < length l → m ≡ count p (take n l)
     → v ≡ getD l n d → b ≡ p v → m + bit b ≡ count p (take (n + 1) l)
-count-step p l d v n m b h q r t = rw (count-more p l d n h, q, t, r)
+count-step p l d v n m b h q r t = rw (add-one n, count-suc p l d n h, q, t, r)
 
-pub tally-more : (p : ℕ → Bool) (n : ℕ) → tally p (n + 1) ≡ tally p n + bit (p n)
+pub tally-next : (p : ℕ → Bool) (n : ℕ) → tally p (n + 1) ≡ tally p n + bit (p n)
 unfolding sum
-tally-more p n = rw (add-one n)
+tally-next p n = rw (add-one n)
 
 -- the position of the event v at e
 pub position-by : (s : List ℕ) (c : Counts) (e r : ℕ) (v : Event) → v ≡ getD (eventsOf s) e noEvent
@@ -88,6 +74,22 @@ module _ (p : ℕ → Bool) (n e : ℕ) (b : Bool) (up : n ≡ e + 1) (t : b ≡
   unfolding lastOf
   last-lower h = let k : p e ≡ false = sym t ∙ h in rw (up, add-one e, k, lastOf)
 
+abbrev pub nothing : Found → Bool
+nothing (Found.At e) = false
+nothing Found.Nothing = true
+
+-- none of the first n passes the test exactly where no last one is found
+pub none-found : {A : Type 0} (p : A → Bool) (l : List A) (d : A) (n : ℕ) → n ≤ length l
+    → nothing (lastOf (λ a. p (getD l a d)) n) ≡ eqb (count p (take n l)) 0
+unfolding count lastOf
+none-found p l d zero h = refl
+none-found p l d (suc n) h =
+    let up : suc n ≡ n + 1 = omega arith in
+    let m = count-suc p l d n h in
+    cases (p (getD l n d))
+    (λ t. let z : 0 < count p (take (suc n) l) = omega (arith, ap bit t) in rw (← last-here (λ a. p (getD l a d)) (suc n) n true up (sym t) refl) (sym (ne-eqb (count p (take (suc n) l)) 0 (λ q. omega arith))))
+    (λ t. let z : count p (take (suc n) l) ≡ count p (take n l) = omega (arith, ap bit t) in rw (← last-lower (λ a. p (getD l a d)) (suc n) n false up (sym t) refl, z) (none-found p l d n (omega arith)))
+
 -- ---- numbers written in order: to write what is left over what is there gives the whole
 
 module _ {A : Type 0} (f : ℕ → A) where
@@ -104,4 +106,4 @@ module _ {A : Type 0} (f : ℕ → A) where
   fill-end out e n h = let k : n - e ≡ 0 = omega arith in rw k
 
   pub fill-whole : (out : List A) (n : ℕ) → n ≤ length out → sets out 0 (listOf f n) ≡ listOf f n ++ drop n out
-  fill-whole out n h = let k = from-length f 0 n in rw (sets-eq (listOf f n) out 0 (omega arith), k, zero-add n)
+  fill-whole out n h = let k = listOf-length f (f 0) n in rw (sets-eq (listOf f n) out 0 (omega arith), k, zero-add n)

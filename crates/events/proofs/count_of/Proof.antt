@@ -9,7 +9,7 @@ use lib.ListN.{getD}
 use Rattle.model.specs.Numbers.{bit, sum, tally}
 use Rattle.model.specs.Recording.{ofTask, noEvent}
 use Rattle.model.specs.File.{eventsOf}
-use Rattle.events.proofs.Laws.{task-at, tally-more}
+use Rattle.events.proofs.Laws.{task-at, tally-next}
 use Rattle.events.proofs.count_of.Statement.{statement}
 use Rattle.events.proofs.count_of.Tie as tie
 
@@ -28,7 +28,7 @@ loop-again c =
     let a = c .before .before .before .before .args in
     let k = c .before .before .before .loop in
     let s = a .recs .now in
-    let m = tally-more (λ x. ofTask (a .task) (getD (eventsOf s) x noEvent)) (k .i) in
+    let m = tally-next (λ x. ofTask (a .task) (getD (eventsOf s) x noEvent)) (k .i) in
     let t = ap (λ (x : ℕ). bit (eqb x (a .task))) (task-at s (k .i) (omega arith)) in
     ⊎-elim
     (λ w. let b = ap bit (eq-eqb (getD s (4 * k .i) 0) (a .task) (w .0 .taken)) in (omega arith, omega arith, omega arith))
