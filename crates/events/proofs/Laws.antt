@@ -19,13 +19,10 @@ use Rattle.model.specs.File.{eventAt, eventsOf, recordingBy}
 use Rattle.model.specs.Vectors.{position}
 use Rattle.model.proofs.Tests.{cases}
 use Rattle.model.proofs.Lists.{listOf-length, listOf-at}
+pub use Rattle.model.proofs.Files.{events-length}
 use Rattle.model.proofs.Counting.{count-append}
 
 -- ---- the events
-
-pub events-length : (s : List ℕ) → length (eventsOf s) ≡ length s / 4
-unfolding eventsOf
-events-length s = listOf-length (eventAt s) noEvent (length s / 4)
 
 pub event-at : (s : List ℕ) (e : ℕ) → e < length s / 4 → getD (eventsOf s) e noEvent ≡ eventAt s e
 unfolding eventsOf

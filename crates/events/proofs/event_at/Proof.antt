@@ -1,5 +1,4 @@
 -- `events::event_at` meets its contract: the event that is made of the bytes is event e of the list. Assumes nothing.
-use mathlib.Core.Path.{sym, _∙_}
 use native.Mathlib.Omega.{arith}
 use Rattle.model.specs.File.{eventAt}
 use Rattle.events.proofs.Laws.{event-at}
