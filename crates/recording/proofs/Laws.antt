@@ -1,10 +1,12 @@
--- Laws of the record check that the proofs cite: how the first fault goes on by one record. Assumes nothing.
+-- Laws of the record check that the proofs cite: what a test says, and how the first fault goes on by one record. Assumes nothing.
 use mathlib.Core.Path.{_≡_, refl, sym, _∙_}
+use mathlib.Core.Bool.{Bool, true, false, not}
 use mathlib.Core.List.{List}
 use Prim.Native.Nat.{ℕ, zero, suc, _+_, _*_, _-_, _≤_, _<_}
 use native.Mathlib.Nat.{add-zero, add-suc}
 use native.Mathlib.Numerals.{add-one}
 use native.Mathlib.Omega.{arith}
+use borrow.Author.Tests.{not-true, not-false}
 use lib.ListN.{length, take}
 use lib.Seq.{length-take-le}
 use Rattle.model.specs.declared.Event.{Event}
@@ -14,6 +16,13 @@ use Rattle.model.specs.Refusals.{andThen}
 use Rattle.model.specs.Recording.{Recording, event, recordCheck, firstFault}
 use Rattle.model.specs.File.{eventsOf}
 use Rattle.model.proofs.Files.{events-length}
+
+-- a test of the code, negated there, and what it says of the definition
+pub passed : {t d : Bool} → t ≡ d → not t ≡ false → d ≡ true
+passed {t} e h = sym e ∙ not-false t h
+
+pub failed : {t d : Bool} → t ≡ d → not t ≡ true → d ≡ false
+failed {t} e h = sym e ∙ not-true t h
 
 -- of n whole records, n events come before record n
 pub before-length : (s : List ℕ) (n : ℕ) → 4 * n ≤ length s → length (take n (eventsOf s)) ≡ n

@@ -22,7 +22,9 @@ loop-holds c = (omega arith, refl)
 
 returns : tie.Need-returns Inv-loop μ-loop
 returns c =
-    fault-first _ _ _ _ (c .before .before .before .before .before .before .loop .inv .1) (c .before .before .before .before .event-at .ensures) (c .before .before .before .record-check .ensures) _ (c .before .check .given .1) _ (c .before .before .before .before .before .loop-test .taken)
+    let turn = c .before .before .before .before in
+    fault-first _ _ _ _ (turn .before .before .loop .inv .1) (turn .event-at .ensures) (c .before .before .before .record-check .ensures) _ (c .before .check .given .1) _
+    (turn .before .loop-test .taken)
 
 loop-again : tie.Need-loop-again Inv-loop μ-loop
 loop-again c = (omega arith, fault-none _ _ _ _ (c .before .before .before .before .before .loop .inv .1) (c .before .before .before .event-at .ensures) (c .before .before .record-check .ensures) (c .enum-told .given .1))

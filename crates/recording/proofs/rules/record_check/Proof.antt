@@ -1,31 +1,48 @@
--- `recording::rules::record_check` meets its contract. Each return rewrites the definition by the tests and the calls that led to it. Assumes nothing.
+-- `recording::rules::record_check` meets its contract. Each return rewrites the definition by the tests that passed and the one that failed. Assumes nothing.
 use native.Mathlib.Omega.{arith}
 use borrow.Author.Needs.{needs}
-use borrow.Author.Tests.{not-true, not-false}
 use Rattle.model.specs.Recording.{recordCheck}
-use Rattle.recording.proofs.Laws.{before-length}
+use Rattle.recording.proofs.Laws.{passed, failed, before-length}
 use Rattle.recording.proofs.rules.record_check.Statement.{statement}
 use Rattle.recording.proofs.rules.record_check.Tie as tie
 
 returns : tie.Need-returns
 unfolding recordCheck
-returns c = simp (← c .before .known-kind .ensures, not-true (c .before .known-kind .result) (c .if1 .taken), before-length (c .before .before .before .args .recs .now) (c .before .before .before .args .n) (c .before .before .before .pre))
+returns c =
+    let at = c .before .before .before in
+    rw (failed (c .before .known-kind .ensures) (c .if1 .taken), before-length (at .args .recs .now) (at .args .n) (at .pre))
 
 returns-2 : tie.Need-returns-2
 unfolding recordCheck
-returns-2 c = simp (← c .before .before .before .known-kind .ensures, not-false (c .before .before .before .known-kind .result) (c .before .before .if1 .left), ← c .before .is-named .ensures, not-true (c .before .is-named .result) (c .if2 .taken), before-length (c .before .before .before .before .before .args .recs .now) (c .before .before .before .before .before .args .n) (c .before .before .before .before .before .pre))
+returns-2 c =
+    let kind = c .before .before in
+    let at = c .before .before .before .before .before in
+    rw (passed (kind .before .known-kind .ensures) (kind .if1 .left), failed (c .before .is-named .ensures) (c .if2 .taken), before-length (at .args .recs .now) (at .args .n) (at .pre))
 
 returns-3 : tie.Need-returns-3
 unfolding recordCheck
-returns-3 c = simp (← c .before .before .before .before .before .known-kind .ensures, not-false (c .before .before .before .before .before .known-kind .result) (c .before .before .before .before .if1 .left), ← c .before .before .before .is-named .ensures, not-false (c .before .before .before .is-named .result) (c .before .before .if2 .left), ← c .before .life-kept .ensures, not-true (c .before .life-kept .result) (c .if3 .taken), before-length (c .before .before .before .before .before .before .before .args .recs .now) (c .before .before .before .before .before .before .before .args .n) (c .before .before .before .before .before .before .before .pre))
+returns-3 c =
+    let kind = c .before .before .before .before in
+    let name = c .before .before in
+    let at = c .before .before .before .before .before .before .before in
+    rw (passed (kind .before .known-kind .ensures) (kind .if1 .left), passed (name .before .is-named .ensures) (name .if2 .left), failed (c .before .life-kept .ensures) (c .if3 .taken), before-length (at .args .recs .now) (at .args .n) (at .pre))
 
 returns-4 : tie.Need-returns-4
 unfolding recordCheck
-returns-4 c = simp (← c .before .before .before .before .before .before .before .known-kind .ensures, not-false (c .before .before .before .before .before .before .before .known-kind .result) (c .before .before .before .before .before .before .if1 .left), ← c .before .before .before .before .before .is-named .ensures, not-false (c .before .before .before .before .before .is-named .result) (c .before .before .before .before .if2 .left), ← c .before .before .before .life-kept .ensures, not-false (c .before .before .before .life-kept .result) (c .before .before .if3 .left), ← c .before .wait-kept .ensures, not-true (c .before .wait-kept .result) (c .if4 .taken), before-length (c .before .before .before .before .before .before .before .before .before .args .recs .now) (c .before .before .before .before .before .before .before .before .before .args .n) (c .before .before .before .before .before .before .before .before .before .pre))
+returns-4 c =
+    let kind = c .before .before .before .before .before .before in
+    let name = c .before .before .before .before in
+    let life = c .before .before in
+    let at = c .before .before .before .before .before .before .before .before .before in
+    rw (passed (kind .before .known-kind .ensures) (kind .if1 .left), passed (name .before .is-named .ensures) (name .if2 .left), passed (life .before .life-kept .ensures) (life .if3 .left), failed (c .before .wait-kept .ensures) (c .if4 .taken), before-length (at .args .recs .now) (at .args .n) (at .pre))
 
 returns-5 : tie.Need-returns-5
 unfolding recordCheck
-returns-5 c = simp (← c .before .before .before .before .before .before .before .known-kind .ensures, not-false (c .before .before .before .before .before .before .before .known-kind .result) (c .before .before .before .before .before .before .if1 .left), ← c .before .before .before .before .before .is-named .ensures, not-false (c .before .before .before .before .before .is-named .result) (c .before .before .before .before .if2 .left), ← c .before .before .before .life-kept .ensures, not-false (c .before .before .before .life-kept .result) (c .before .before .if3 .left), ← c .before .wait-kept .ensures, not-false (c .before .wait-kept .result) (c .if4 .left))
+returns-5 c =
+    let kind = c .before .before .before .before .before .before in
+    let name = c .before .before .before .before in
+    let life = c .before .before in
+    rw (passed (kind .before .known-kind .ensures) (kind .if1 .left), passed (name .before .is-named .ensures) (name .if2 .left), passed (life .before .life-kept .ensures) (life .if3 .left), passed (c .before .wait-kept .ensures) (c .if4 .left))
 
 pub record-check-spec : {M : Type 1} → statement M
 record-check-spec =
