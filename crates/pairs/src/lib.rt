@@ -213,3 +213,74 @@ fn list_row(
     }
     next
 }
+
+// The same where a accesses the cell; else nothing is written.
+fn list_access(
+    recs: &[u8],
+    counts: Counts,
+    at: &[u16],
+    safe: &[u16],
+    recorded: &[u16],
+    cell: u16,
+    a: usize,
+    out: &mut [u16],
+    p: usize,
+) -> usize
+    requires { ⌜ Lent (now recs) counts (now at) (now safe) (now recorded) × Numbered (now recs) a ⌝ }
+    requires { ⌜ p + 3 * length (rowAt (recordingBy (now recs) counts) (vectorsIn (now recs) counts (now safe)) (vectorsIn (now recs) counts (now recorded)) cell a) ≤ length (now out) ⌝ }
+    ensures { λ r. ⌜ Stored (now (out .entry)) p (rowAt (recordingBy (now (recs .entry)) counts) (vectorsIn (now (recs .entry)) counts (now (safe .entry))) (vectorsIn (now (recs .entry)) counts (now (recorded .entry))) cell a) (now (out .exit)) r ⌝ }
+{
+    if !accesses(recs, a, cell) {
+        return p;
+    }
+    list_row(recs, counts, at, safe, recorded, a, out, p)
+}
+
+// Writes the entries of a cell from place p on. Answers the place after them.
+fn list_cell(
+    recs: &[u8],
+    counts: Counts,
+    at: &[u16],
+    safe: &[u16],
+    recorded: &[u16],
+    cell: u16,
+    out: &mut [u16],
+    p: usize,
+) -> usize
+    requires { ⌜ Lent (now recs) counts (now at) (now safe) (now recorded) ⌝ }
+    requires { ⌜ p + 3 * length (cellEntries (recordingBy (now recs) counts) (vectorsIn (now recs) counts (now safe)) (vectorsIn (now recs) counts (now recorded)) cell) ≤ length (now out) ⌝ }
+    ensures { λ r. ⌜ Stored (now (out .entry)) p (cellEntries (recordingBy (now (recs .entry)) counts) (vectorsIn (now (recs .entry)) counts (now (safe .entry))) (vectorsIn (now (recs .entry)) counts (now (recorded .entry))) cell) (now (out .exit)) r ⌝ }
+{
+    let n = recs.len() / 4;
+    let mut next = p;
+    let mut a = 0;
+    while a < n {
+        next = list_access(recs, counts, at, safe, recorded, cell, a, out, next);
+        a += 1;
+    }
+    next
+}
+
+// Writes all entries from place p on. Answers the place after them.
+fn list_all(
+    recs: &[u8],
+    counts: Counts,
+    at: &[u16],
+    safe: &[u16],
+    recorded: &[u16],
+    out: &mut [u16],
+    p: usize,
+) -> usize
+    requires { ⌜ Lent (now recs) counts (now at) (now safe) (now recorded) ⌝ }
+    requires { ⌜ p + 3 * length (entries (recordingBy (now recs) counts) (vectorsIn (now recs) counts (now safe)) (vectorsIn (now recs) counts (now recorded))) ≤ length (now out) ⌝ }
+    ensures { λ r. ⌜ Stored (now (out .entry)) p (entries (recordingBy (now (recs .entry)) counts) (vectorsIn (now (recs .entry)) counts (now (safe .entry))) (vectorsIn (now (recs .entry)) counts (now (recorded .entry)))) (now (out .exit)) r ⌝ }
+{
+    let cells = counts.cells;
+    let mut next = p;
+    let mut cell: u16 = 0;
+    while cell < cells {
+        next = list_cell(recs, counts, at, safe, recorded, cell, out, next);
+        cell += 1;
+    }
+    next
+}
