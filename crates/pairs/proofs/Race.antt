@@ -96,7 +96,7 @@ module _ (E : Recording) (X R : Vectors) where
   unfolding cellEntries
   cell-most c h = omega (arith, each-most (rowAt E X R c) 1024 (λ a. omega (arith, row-at-most c a)) (size E))
 
-  pub list-most : size E ≤ 1024 → length (entries E X R) ≤ cells E * 1048576
+  list-most : size E ≤ 1024 → length (entries E X R) ≤ cells E * 1048576
   unfolding entries
   list-most h = each-most (cellEntries E X R) 1048576 (λ c. cell-most c h) (cells E)
 
@@ -107,3 +107,6 @@ module _ (E : Recording) (X : Vectors) (n : ℕ) (h : size E ≤ 1024) where
 
   pub cell-few : (c : ℕ) → ((R : Vectors) → n ≡ length (cellEntries E X R c)) → n ≤ 1048576
   cell-few c e = omega (arith, e [], cell-most E X [] c h)
+
+  pub list-few : cells E ≤ 1024 → ((R : Vectors) → n ≡ length (entries E X R)) → n ≤ 1073741824
+  list-few k e = omega (arith, e [], list-most E X [] h)

@@ -1,17 +1,18 @@
 -- Entries stored one after another, in parts. Assumes nothing.
 use mathlib.Core.Path.{_≡_, refl, sym, ap, _∙_}
-use mathlib.Core.Bool.{true}
+use mathlib.Core.Bool.{true, false}
 use mathlib.Core.List.{List, [], _∷_, _++_}
 use Prim.Native.Nat.{ℕ, suc, _+_, _*_, _≤_, _<_}
 use native.Mathlib.Nat.{add-zero, zero-add}
 use native.Mathlib.Omega.{arith}
 use lib.ListN.{length, drop, length-append}
 use lib.Seq.{sets, sets-eq}
+use borrow.Author.Tests.{le-leb, lt-leb}
 use Rattle.model.specs.Numbers.{each}
 use Rattle.model.specs.Recording.{Recording}
 use Rattle.model.specs.Vectors.{Vectors}
 use Rattle.model.specs.Pairs.{racePair, mark, Entry, entryNumbers}
-use Rattle.pairs.specs.Lent.{pairAt, Stored}
+use Rattle.pairs.specs.Lent.{pairAt, Stored, Outcome}
 use Rattle.pairs.proofs.Each.{each-more, each-count, each-longer}
 use Rattle.pairs.proofs.Race.{pair-hit}
 
@@ -70,6 +71,16 @@ pub stored-all : {l m : List ℕ} {at p : ℕ} (f : ℕ → List Entry) (i n : �
 stored-all f i n e s = rw e at s
 
 -- stored from the front: the entries, and beyond the last one what was there
-pub stored-front : (l : List ℕ) (es : List Entry) (m : List ℕ) (p : ℕ) → 3 * length es ≤ length l → Stored l 0 es m p → m ≡ entryNumbers es ++ drop (3 * length es) l
+stored-front : (l : List ℕ) (es : List Entry) (m : List ℕ) (p : ℕ) → 3 * length es ≤ length l → Stored l 0 es m p → m ≡ entryNumbers es ++ drop (3 * length es) l
 stored-front l es m p h s =
     s .numbers ∙ sets-eq (entryNumbers es) l 0 (omega (arith, numbers-length es)) ∙ rw (numbers-length es, zero-add (3 * length es))
+
+-- the entries do not fit, and the list is as it was
+pub refused : (es : List Entry) (l : List ℕ) (n : ℕ) → n ≡ length es → length l < 3 * n → Outcome es l l false n
+refused es l n e h = record { counted = e; room = sym (lt-leb (3 * length es) (length l) (omega arith)); written = refl }
+
+-- they fit, and are written
+pub listed : (es : List Entry) (l m : List ℕ) (n p : ℕ) → n ≡ length es → 3 * n ≤ length l → Stored l 0 es m p → Outcome es l m true n
+listed es l m n p e h s =
+    let r : 3 * length es ≤ length l = omega arith in
+    record { counted = e; room = sym (le-leb (3 * length es) (length l) r); written = stored-front l es m p r s }

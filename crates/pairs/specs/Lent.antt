@@ -2,10 +2,10 @@
 -- Assumes nothing.
 use Prim.Native.Nat.{ℕ, _+_, _*_, _≤_, _<_}
 use mathlib.Core.Path.{_≡_}
-use mathlib.Core.Bool.{cond}
-use mathlib.Core.List.{List, [], _∷_}
-use lib.Dec.{eqb}
-use lib.ListN.{length, getD}
+use mathlib.Core.Bool.{Bool, cond}
+use mathlib.Core.List.{List, [], _∷_, _++_}
+use lib.Dec.{eqb, leb}
+use lib.ListN.{length, getD, drop}
 use lib.Seq.{sets}
 use Rattle.model.specs.declared.Counts.{Counts}
 use Rattle.model.specs.declared.Relation.{Relation}
@@ -58,6 +58,12 @@ rowAt E X R c a = cond (eqb (objectOf E a) c) (entriesOf E X R a) []
 pub record Stored (old : List ℕ) (at : ℕ) (es : List Entry) (out : List ℕ) (p : ℕ) : Type 0 where
   pub numbers : out ≡ sets old at (entryNumbers es)
   pub next : p ≡ at + 3 * length es
+
+-- es are pairs entries; where they fit into the list they are written to it, and nothing else of it changes
+pub record Outcome (es : List Entry) (old out : List ℕ) (fits : Bool) (pairs : ℕ) : Type 0 where
+  pub counted : pairs ≡ length es
+  pub room : fits ≡ leb (3 * length es) (length old)
+  pub written : out ≡ cond fits (entryNumbers es ++ drop (3 * length es) old) old
 
 -- how a and e stand to each other by the safe vectors X and the recorded vectors R
 abbrev pub relationBy : Recording → Vectors → Vectors → ℕ → ℕ → Relation

@@ -10,9 +10,10 @@ ghost use Rattle.model.specs.Recording.{noEvent};
 ghost use Rattle.model.specs.File.{eventsOf, recordingBy};
 ghost use Rattle.model.specs.Vectors.{Vectors, ordered, unordered};
 ghost use Rattle.model.specs.Pairs.{isAccess, isWrite, conflict, racePair, mark, entriesOf, cellEntries, entries};
-ghost use Rattle.pairs.specs.Lent.{vectorsIn, Fitting, Numbered, Records, Placed, Lent, pairAt, rowAt, Stored, relationBy};
+ghost use Rattle.pairs.specs.Lent.{vectorsIn, Fitting, Numbered, Records, Placed, Lent, pairAt, rowAt, Stored, Outcome, relationBy};
 use model::Counts;
 use model::Event;
+use model::Relation;
 
 // Whether the event is a write.
 fn is_write(v: Event) -> bool
@@ -283,4 +284,83 @@ fn list_all(
         cell += 1;
     }
     next
+}
+
+// Whether a list had room for its entries, and how many they are.
+pub struct Listed {
+    pub fits: bool,
+    pub pairs: usize,
+}
+
+// The same as `list`, with the positions at hand: counts first, so that nothing is written where there is no room.
+fn list_placed(
+    recs: &[u8],
+    counts: Counts,
+    at: &[u16],
+    safe: &[u16],
+    recorded: &[u16],
+    out: &mut [u16],
+) -> Listed
+    requires { ⌜ Lent (now recs) counts (now at) (now safe) (now recorded) ⌝ }
+    ensures { λ r. ⌜ Outcome (entries (recordingBy (now (recs .entry)) counts) (vectorsIn (now (recs .entry)) counts (now (safe .entry))) (vectorsIn (now (recs .entry)) counts (now (recorded .entry)))) (now (out .entry)) (now (out .exit)) (r .fits) (r .pairs) ⌝ }
+{
+    let pairs = count(recs, counts, at, safe);
+    if out.len() < 3 * pairs {
+        return Listed { fits: false, pairs };
+    }
+    list_all(recs, counts, at, safe, recorded, out, 0);
+    Listed { fits: true, pairs }
+}
+
+// Writes the list of the race pairs, or leaves `out` as it was where they do not fit.
+pub fn list(recs: &[u8], counts: Counts, safe: &[u16], recorded: &[u16], out: &mut [u16]) -> Listed
+    requires { ⌜ Records (now recs) counts × Fitting (now recs) counts (now safe) × Fitting (now recs) counts (now recorded) ⌝ }
+    ensures { λ r. ⌜ Outcome (entries (recordingBy (now (recs .entry)) counts) (vectorsIn (now (recs .entry)) counts (now (safe .entry))) (vectorsIn (now (recs .entry)) counts (now (recorded .entry)))) (now (out .entry)) (now (out .exit)) (r .fits) (r .pairs) ⌝ }
+{
+    let mut at = [0u16; 1024];
+    events::positions(recs, &mut at);
+    list_placed(recs, counts, &at, safe, recorded, out)
+}
+
+// The same as `relation`, with the positions at hand.
+fn relation_placed(
+    recs: &[u8],
+    counts: Counts,
+    at: &[u16],
+    safe: &[u16],
+    recorded: &[u16],
+    a: usize,
+    b: usize,
+) -> Relation
+    requires { ⌜ Lent (now recs) counts (now at) (now safe) (now recorded) × Numbered (now recs) a × Numbered (now recs) b ⌝ }
+    ensures { λ r. ⌜ r ≡ relationBy (recordingBy (now (recs .entry)) counts) (vectorsIn (now (recs .entry)) counts (now (safe .entry))) (vectorsIn (now (recs .entry)) counts (now (recorded .entry))) a b ⌝ }
+{
+    if ordered(recs, counts, at, safe, a, b) {
+        return Relation::First;
+    }
+    if ordered(recs, counts, at, safe, b, a) {
+        return Relation::Second;
+    }
+    if unordered(recs, counts, at, recorded, a, b) {
+        return Relation::Sure;
+    }
+    Relation::Open
+}
+
+// How events a and b stand to each other.
+pub fn relation(
+    recs: &[u8],
+    counts: Counts,
+    safe: &[u16],
+    recorded: &[u16],
+    a: usize,
+    b: usize,
+) -> Relation
+    requires { ⌜ Records (now recs) counts × Fitting (now recs) counts (now safe) × Fitting (now recs) counts (now recorded) ⌝ }
+    requires { ⌜ Numbered (now recs) a × Numbered (now recs) b ⌝ }
+    ensures { λ r. ⌜ r ≡ relationBy (recordingBy (now (recs .entry)) counts) (vectorsIn (now (recs .entry)) counts (now (safe .entry))) (vectorsIn (now (recs .entry)) counts (now (recorded .entry))) a b ⌝ }
+{
+    let mut at = [0u16; 1024];
+    events::positions(recs, &mut at);
+    relation_placed(recs, counts, &at, safe, recorded, a, b)
 }
