@@ -2,16 +2,16 @@
 use mathlib.Core.Path.{_≡_, refl, sym, ap, _∙_}
 use mathlib.Core.Bool.{true, false}
 use mathlib.Core.List.{List, [], _∷_, _++_}
-use Prim.Native.Nat.{ℕ, suc, _+_, _*_, _≤_, _<_}
-use native.Mathlib.Nat.{add-zero, zero-add}
+use Prim.Native.Nat.{ℕ, _+_, _*_, _≤_, _<_}
 use native.Mathlib.Omega.{arith}
 use lib.ListN.{length, drop, length-append}
-use lib.Seq.{sets, sets-eq}
+use lib.Seq.{sets}
 use borrow.Author.Tests.{le-leb, lt-leb}
 use Rattle.model.specs.Numbers.{each}
 use Rattle.model.specs.Recording.{Recording}
 use Rattle.model.specs.Vectors.{Vectors}
 use Rattle.model.specs.Pairs.{racePair, mark, Entry, entryNumbers}
+use Rattle.vectors.proofs.Stores.{sets-append, sets-front}
 use Rattle.pairs.specs.Lent.{pairAt, Stored, Outcome}
 use Rattle.pairs.proofs.Each.{each-more, each-count, each-longer}
 use Rattle.pairs.proofs.Race.{pair-hit}
@@ -25,13 +25,6 @@ numbers-append : (es fs : List Entry) → entryNumbers (es ++ fs) ≡ entryNumbe
 unfolding entryNumbers
 numbers-append [] fs = refl
 numbers-append (e ∷ es) fs = ap (λ (l : List ℕ). e .first ∷ e .second ∷ e .mark ∷ l) (numbers-append es fs)
-
--- stores made in two parts
-sets-append : (xs ys l : List ℕ) (i : ℕ) → sets l i (xs ++ ys) ≡ sets (sets l i xs) (i + length xs) ys
-sets-append [] ys l i = rw (add-zero i)
-sets-append (x ∷ xs) ys l i =
-    let e : suc i + length xs ≡ i + suc (length xs) = omega arith in
-    sets-append xs ys _ (suc i) ∙ ap (λ (k : ℕ). sets (sets l i (x ∷ xs)) k ys) e
 
 -- nothing stored yet
 pub stored-none : (l : List ℕ) (at : ℕ) (es : List Entry) → es ≡ [] → Stored l at es l at
@@ -72,8 +65,7 @@ stored-all f i n e s = rw e at s
 
 -- stored from the front: the entries, and beyond the last one what was there
 stored-front : (l : List ℕ) (es : List Entry) (m : List ℕ) (p : ℕ) → 3 * length es ≤ length l → Stored l 0 es m p → m ≡ entryNumbers es ++ drop (3 * length es) l
-stored-front l es m p h s =
-    s .numbers ∙ sets-eq (entryNumbers es) l 0 (omega (arith, numbers-length es)) ∙ rw (numbers-length es, zero-add (3 * length es))
+stored-front l es m p h s = s .numbers ∙ sets-front l (entryNumbers es) (3 * length es) (numbers-length es) h
 
 -- the entries do not fit, and the list is as it was
 pub refused : (es : List Entry) (l : List ℕ) (n : ℕ) → n ≡ length es → length l < 3 * n → Outcome es l l false n

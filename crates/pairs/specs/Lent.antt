@@ -1,48 +1,23 @@
 -- What the functions of this crate are lent, and what they hand back: equations over the definitions of the model.
 -- Assumes nothing.
-use Prim.Native.Nat.{ℕ, _+_, _*_, _≤_, _<_}
+use Prim.Native.Nat.{ℕ, _+_, _*_, _≤_}
 use mathlib.Core.Path.{_≡_}
 use mathlib.Core.Bool.{Bool, cond}
 use mathlib.Core.List.{List, [], _∷_, _++_}
 use lib.Dec.{eqb, leb}
-use lib.ListN.{length, getD, drop}
+use lib.ListN.{length, drop}
 use lib.Seq.{sets}
 use Rattle.model.specs.declared.Counts.{Counts}
 use Rattle.model.specs.declared.Relation.{Relation}
-use Rattle.model.specs.Recording.{Recording, size, taskOf, objectOf}
-use Rattle.model.specs.File.{eventsOf, recordingBy}
-use Rattle.model.specs.Vectors.{Vectors, position, ordered, unordered}
+use Rattle.model.specs.Recording.{Recording, objectOf}
+use Rattle.model.specs.Vectors.{Vectors, ordered, unordered}
 use Rattle.model.specs.Pairs.{racePair, Entry, entry, entriesOf, entryNumbers}
-use Rattle.vectors.specs.Rows.{chunks}
+use Rattle.passes.specs.Lent.{Fitting, Placed}
 
--- lent numbers as one vector for each event
-abbrev pub vectorsIn : List ℕ → Counts → List ℕ → Vectors
-vectorsIn s c v = chunks (size (recordingBy s c)) (c .tasks) v
-
--- they are as many as the vectors have
-abbrev pub Fitting : List ℕ → Counts → List ℕ → Type 0
-Fitting s c v = length v ≡ size (recordingBy s c) * c .tasks
-
--- a is the number of an event of these record bytes
-abbrev pub Numbered : List ℕ → ℕ → Type 0
-Numbered s a = a < length (eventsOf s)
-
--- the record bytes s are whole records, at most 1,024, of at most 1,024 cells, each of a task below the number of tasks
-pub record Records (s : List ℕ) (c : Counts) : Type 0 where
-  pub whole : length s ≡ 4 * size (recordingBy s c)
-  pub few : size (recordingBy s c) ≤ 1024
-  pub cells : c .cells ≤ 1024
-  pub named : (e : ℕ) → e < size (recordingBy s c) → taskOf (recordingBy s c) e < c .tasks
-
--- and `at` has the positions of their events
-pub record Placed (s : List ℕ) (c : Counts) (at : List ℕ) : Type 0 where
-  pub records : Records s c
-  pub room : size (recordingBy s c) ≤ length at
-  pub placed : (e : ℕ) → e < size (recordingBy s c) → getD at e 0 ≡ position (recordingBy s c) e
-
--- with the safe and the recorded vectors
+-- records of few cells, the positions of their events, and the safe and the recorded vectors x and r
 pub record Lent (s : List ℕ) (c : Counts) (at x r : List ℕ) : Type 0 where
   pub placed : Placed s c at
+  pub cells : c .cells ≤ 1024
   pub safe : Fitting s c x
   pub recorded : Fitting s c r
 

@@ -8,9 +8,10 @@ ghost use lib.ListN.{length, getD};
 ghost use lib.Seq.{sets};
 ghost use Rattle.model.specs.Recording.{noEvent};
 ghost use Rattle.model.specs.File.{eventsOf, recordingBy};
-ghost use Rattle.model.specs.Vectors.{Vectors, ordered, unordered};
+ghost use Rattle.model.specs.Vectors.{Vectors, unordered};
 ghost use Rattle.model.specs.Pairs.{isAccess, isWrite, conflict, racePair, mark, entriesOf, cellEntries, entries};
-ghost use Rattle.pairs.specs.Lent.{vectorsIn, Fitting, Numbered, Records, Placed, Lent, pairAt, rowAt, Stored, Outcome, relationBy};
+ghost use Rattle.passes.specs.Lent.{vectorsIn, Fitting, Numbered, Records, Placed};
+ghost use Rattle.pairs.specs.Lent.{Lent, pairAt, rowAt, Stored, Outcome, relationBy};
 use model::Counts;
 use model::Event;
 use model::Relation;
@@ -49,35 +50,13 @@ fn accesses(recs: &[u8], a: usize, cell: u16) -> bool
     is_access(v) & (v.object == cell)
 }
 
-// Event e's number for task t.
-fn number(v: &[u16], e: usize, tasks: usize, t: usize) -> u16
-    requires { ⌜ e * tasks + t < length (now v) ⌝ }
-    ensures { λ r. ⌜ r ≡ getD (now (v .entry)) (e * tasks + t) 0 ⌝ }
-{
-    v[e * tasks + t]
-}
-
-// Whether the vectors order event a before event b.
-fn ordered(recs: &[u8], counts: Counts, at: &[u16], v: &[u16], a: usize, b: usize) -> bool
-    requires { ⌜ Placed (now recs) counts (now at) × Fitting (now recs) counts (now v) ⌝ }
-    requires { ⌜ Numbered (now recs) a × Numbered (now recs) b ⌝ }
-    ensures { λ r. ⌜ r ≡ ordered (recordingBy (now (recs .entry)) counts) (vectorsIn (now (recs .entry)) counts (now (v .entry))) a b ⌝ }
-{
-    if a == b {
-        return false;
-    }
-    let e = events::event_at(recs, a);
-    let tasks = counts.tasks as usize;
-    at[a] <= number(v, b, tasks, e.task as usize)
-}
-
 // Whether the vectors order neither event before the other.
 fn unordered(recs: &[u8], counts: Counts, at: &[u16], v: &[u16], a: usize, b: usize) -> bool
     requires { ⌜ Placed (now recs) counts (now at) × Fitting (now recs) counts (now v) ⌝ }
     requires { ⌜ Numbered (now recs) a × Numbered (now recs) b ⌝ }
     ensures { λ r. ⌜ r ≡ unordered (recordingBy (now (recs .entry)) counts) (vectorsIn (now (recs .entry)) counts (now (v .entry))) a b ⌝ }
 {
-    !ordered(recs, counts, at, v, a, b) & !ordered(recs, counts, at, v, b, a)
+    !passes::ordered(recs, counts, at, v, a, b) & !passes::ordered(recs, counts, at, v, b, a)
 }
 
 // Whether a and b, the lower first, are a race pair by the safe vectors.
@@ -143,7 +122,7 @@ fn count_cell(recs: &[u8], counts: Counts, at: &[u16], safe: &[u16], cell: u16) 
 
 // How many entries the list has.
 fn count(recs: &[u8], counts: Counts, at: &[u16], safe: &[u16]) -> usize
-    requires { ⌜ Placed (now recs) counts (now at) × Fitting (now recs) counts (now safe) ⌝ }
+    requires { ⌜ Placed (now recs) counts (now at) × Fitting (now recs) counts (now safe) × (counts .cells ≤ 1024) ⌝ }
     ensures { λ r. ⌜ ((R : Vectors) → r ≡ length (entries (recordingBy (now (recs .entry)) counts) (vectorsIn (now (recs .entry)) counts (now (safe .entry))) R)) ⌝ }
 {
     let cells = counts.cells;
@@ -314,7 +293,7 @@ fn list_placed(
 
 // Writes the list of the race pairs, or leaves `out` as it was where they do not fit.
 pub fn list(recs: &[u8], counts: Counts, safe: &[u16], recorded: &[u16], out: &mut [u16]) -> Listed
-    requires { ⌜ Records (now recs) counts × Fitting (now recs) counts (now safe) × Fitting (now recs) counts (now recorded) ⌝ }
+    requires { ⌜ Records (now recs) counts × (counts .cells ≤ 1024) × Fitting (now recs) counts (now safe) × Fitting (now recs) counts (now recorded) ⌝ }
     ensures { λ r. ⌜ Outcome (entries (recordingBy (now (recs .entry)) counts) (vectorsIn (now (recs .entry)) counts (now (safe .entry))) (vectorsIn (now (recs .entry)) counts (now (recorded .entry)))) (now (out .entry)) (now (out .exit)) (r .fits) (r .pairs) ⌝ }
 {
     let mut at = [0u16; 1024];
@@ -335,10 +314,10 @@ fn relation_placed(
     requires { ⌜ Lent (now recs) counts (now at) (now safe) (now recorded) × Numbered (now recs) a × Numbered (now recs) b ⌝ }
     ensures { λ r. ⌜ r ≡ relationBy (recordingBy (now (recs .entry)) counts) (vectorsIn (now (recs .entry)) counts (now (safe .entry))) (vectorsIn (now (recs .entry)) counts (now (recorded .entry))) a b ⌝ }
 {
-    if ordered(recs, counts, at, safe, a, b) {
+    if passes::ordered(recs, counts, at, safe, a, b) {
         return Relation::First;
     }
-    if ordered(recs, counts, at, safe, b, a) {
+    if passes::ordered(recs, counts, at, safe, b, a) {
         return Relation::Second;
     }
     if unordered(recs, counts, at, recorded, a, b) {
@@ -356,7 +335,7 @@ pub fn relation(
     a: usize,
     b: usize,
 ) -> Relation
-    requires { ⌜ Records (now recs) counts × Fitting (now recs) counts (now safe) × Fitting (now recs) counts (now recorded) ⌝ }
+    requires { ⌜ Records (now recs) counts × (counts .cells ≤ 1024) × Fitting (now recs) counts (now safe) × Fitting (now recs) counts (now recorded) ⌝ }
     requires { ⌜ Numbered (now recs) a × Numbered (now recs) b ⌝ }
     ensures { λ r. ⌜ r ≡ relationBy (recordingBy (now (recs .entry)) counts) (vectorsIn (now (recs .entry)) counts (now (safe .entry))) (vectorsIn (now (recs .entry)) counts (now (recorded .entry))) a b ⌝ }
 {

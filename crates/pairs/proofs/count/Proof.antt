@@ -4,7 +4,7 @@ use Prim.Native.Nat.{_*_, _-_, _≤_, _<_}
 use native.Mathlib.Omega.{arith}
 use Rattle.model.specs.File.{recordingBy}
 use Rattle.model.specs.Pairs.{cellEntries, entries}
-use Rattle.pairs.specs.Lent.{vectorsIn}
+use Rattle.passes.specs.Lent.{vectorsIn}
 use Rattle.pairs.proofs.Race.{Counted, count-none, count-more, count-all, cell-few}
 use Rattle.pairs.proofs.count.Statement.{statement}
 use Rattle.pairs.proofs.count.Tie as tie
@@ -21,7 +21,7 @@ abbrev μ-loop : tie.MeasureT-loop
 μ-loop recs counts at safe cells pairs₀ cell₀ pairs cell = cells - cell
 
 loop-holds : tie.Need-loop-holds Inv-loop μ-loop
-loop-holds c = (c .before .before .before .pre .0 .records .cells, omega arith, refl, omega arith, count-none _)
+loop-holds c = (c .before .before .before .pre .2, omega arith, refl, omega arith, count-none _)
 
 -- a cell has few entries
 few : (c : tie.After-count-cell Inv-loop μ-loop) → c .count-cell .result ≤ 1048576
@@ -43,7 +43,7 @@ count-spec =
     Inv-loop
     μ-loop
     loop-holds
-    (λ c κs. c .before .before .before .before .before .pre)
+    (λ c κs. let s = c .before .before .before .before .before in (s .pre .0, s .pre .1))
     (λ c. omega (arith, few c))
     (λ c. omega arith)
     (λ c. omega arith)

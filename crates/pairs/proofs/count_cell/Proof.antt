@@ -6,7 +6,8 @@ use native.Mathlib.Omega.{arith}
 use lib.ListN.{length}
 use Rattle.model.specs.File.{eventsOf, recordingBy}
 use Rattle.model.specs.Pairs.{cellEntries}
-use Rattle.pairs.specs.Lent.{vectorsIn, rowAt}
+use Rattle.passes.specs.Lent.{vectorsIn}
+use Rattle.pairs.specs.Lent.{rowAt}
 use Rattle.pairs.proofs.Race.{Counted, count-none, count-more, count-all, row-hit, row-miss, row-few}
 use Rattle.pairs.proofs.count_cell.Statement.{statement}
 use Rattle.pairs.proofs.count_cell.Tie as tie

@@ -6,7 +6,8 @@ use native.Mathlib.Omega.{arith}
 use lib.ListN.{length}
 use Rattle.model.specs.File.{eventsOf, recordingBy}
 use Rattle.model.specs.Pairs.{entriesOf}
-use Rattle.pairs.specs.Lent.{vectorsIn, pairAt}
+use Rattle.passes.specs.Lent.{vectorsIn}
+use Rattle.pairs.specs.Lent.{pairAt}
 use Rattle.pairs.proofs.Race.{Counted, count-more, count-all, pair-hit, pair-miss, row-from}
 use Rattle.pairs.proofs.count_row.Statement.{statement}
 use Rattle.pairs.proofs.count_row.Tie as tie

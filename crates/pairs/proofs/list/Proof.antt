@@ -8,7 +8,7 @@ use Rattle.pairs.proofs.list.Tie as tie
 list-placed-requires : tie.Need-list-placed-requires
 list-placed-requires c κs =
     let s = c .before .before .before .before .before .before .before .before .before in
-    lent-by _ _ _ _ _ _ (s .pre) (c .before .before .before .positions .ensures (s .args .counts))
+    lent-by _ _ _ _ _ _ (s .pre) (omega arith) (c .before .before .before .positions .ensures (s .args .counts))
 
 pub list-spec : {M : Type 1} → statement M
 list-spec =

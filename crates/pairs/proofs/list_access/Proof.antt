@@ -5,7 +5,7 @@ use borrow.Author.Needs.{needs}
 use borrow.Author.Tests.{not-true, not-false}
 use lib.ListN.{length}
 use Rattle.model.specs.File.{recordingBy}
-use Rattle.pairs.specs.Lent.{vectorsIn}
+use Rattle.passes.specs.Lent.{vectorsIn}
 use Rattle.pairs.proofs.Race.{row-hit, row-miss}
 use Rattle.pairs.proofs.Stores.{stored-none}
 use Rattle.pairs.proofs.list_access.Statement.{statement}

@@ -6,7 +6,8 @@ use lib.ListN.{length}
 use Rattle.model.specs.Numbers.{each}
 use Rattle.model.specs.File.{recordingBy}
 use Rattle.model.specs.Pairs.{cellEntries, entries}
-use Rattle.pairs.specs.Lent.{vectorsIn, Stored}
+use Rattle.passes.specs.Lent.{vectorsIn}
+use Rattle.pairs.specs.Lent.{Stored}
 use Rattle.pairs.proofs.Stores.{stored-none, stored-more, stored-room, stored-all}
 use Rattle.pairs.proofs.list_all.Statement.{statement}
 use Rattle.pairs.proofs.list_all.Tie as tie
@@ -24,7 +25,7 @@ abbrev μ-loop : tie.MeasureT-loop
 
 loop-holds : tie.Need-loop-holds Inv-loop μ-loop
 unfolding each
-loop-holds c = (omega arith, refl, c .before .before .before .before .before .pre .0 .placed .records .cells, refl, stored-none _ _ _ refl)
+loop-holds c = (omega arith, refl, c .before .before .before .before .before .pre .0 .cells, refl, stored-none _ _ _ refl)
 
 list-cell-requires : tie.Need-list-cell-requires Inv-loop μ-loop
 unfolding entries

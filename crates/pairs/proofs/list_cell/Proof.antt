@@ -6,7 +6,8 @@ use lib.ListN.{length}
 use Rattle.model.specs.Numbers.{each}
 use Rattle.model.specs.File.{eventsOf, recordingBy}
 use Rattle.model.specs.Pairs.{cellEntries}
-use Rattle.pairs.specs.Lent.{vectorsIn, rowAt, Stored}
+use Rattle.passes.specs.Lent.{vectorsIn}
+use Rattle.pairs.specs.Lent.{rowAt, Stored}
 use Rattle.pairs.proofs.Stores.{stored-none, stored-more, stored-room, stored-all}
 use Rattle.pairs.proofs.list_cell.Statement.{statement}
 use Rattle.pairs.proofs.list_cell.Tie as tie

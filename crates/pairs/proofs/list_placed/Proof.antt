@@ -1,7 +1,7 @@
 -- list_placed meets its contract. Assumes nothing.
 use native.Mathlib.Omega.{arith}
 use borrow.Author.Needs.{needs}
-use Rattle.pairs.specs.Lent.{vectorsIn}
+use Rattle.passes.specs.Lent.{vectorsIn}
 use Rattle.pairs.proofs.Race.{list-few}
 use Rattle.pairs.proofs.Stores.{refused, listed}
 use Rattle.pairs.proofs.list_placed.Statement.{statement}
@@ -10,12 +10,12 @@ use Rattle.pairs.proofs.list_placed.Tie as tie
 count-requires : tie.Need-count-requires
 count-requires c κs =
     let s = c .before .before .before .before .before in
-    (s .pre .placed, s .pre .safe)
+    (s .pre .placed, s .pre .safe, s .pre .cells)
 
 mul-if1 : tie.Need-mul-if1
 mul-if1 c =
     let s = c .before .before .before .before .before .before in
-    omega (arith, list-few _ _ _ (s .pre .placed .records .few) (s .pre .placed .records .cells) (c .count .ensures))
+    omega (arith, list-few _ _ _ (s .pre .placed .records .few) (s .pre .cells) (c .count .ensures))
 
 returns : tie.Need-returns
 returns c = refused _ _ _ (c .before .count .ensures _) (c .if1 .taken)

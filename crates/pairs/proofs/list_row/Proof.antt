@@ -6,7 +6,8 @@ use lib.ListN.{length}
 use Rattle.model.specs.Numbers.{each}
 use Rattle.model.specs.File.{eventsOf, recordingBy}
 use Rattle.model.specs.Pairs.{entriesOf}
-use Rattle.pairs.specs.Lent.{vectorsIn, pairAt, Stored}
+use Rattle.passes.specs.Lent.{vectorsIn}
+use Rattle.pairs.specs.Lent.{pairAt, Stored}
 use Rattle.pairs.proofs.Race.{row-from}
 use Rattle.pairs.proofs.Stores.{stored-none, stored-more, stored-room, stored-all}
 use Rattle.pairs.proofs.list_row.Statement.{statement}

@@ -8,7 +8,7 @@ use Rattle.pairs.proofs.relation.Tie as tie
 relation-placed-requires : tie.Need-relation-placed-requires
 relation-placed-requires c κs =
     let s = c .before .before .before .before .before .before .before in
-    (lent-by _ _ _ _ _ _ (s .pre .0) (c .before .before .positions .ensures (s .args .counts)), s .pre .1 .0, s .pre .1 .1)
+    (lent-by _ _ _ _ _ _ (s .pre .0) (omega arith) (c .before .before .positions .ensures (s .args .counts)), s .pre .1 .0, s .pre .1 .1)
 
 pub relation-spec : {M : Type 1} → statement M
 relation-spec =
