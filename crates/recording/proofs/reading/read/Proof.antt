@@ -4,7 +4,7 @@ use borrow.Author.Needs.{needs}
 use mathlib.Core.Path.{_≡_, sym, _∙_}
 use Rattle.model.specs.File.{editionOf}
 use Rattle.model.specs.Reading.{fileCheck}
-use Rattle.recording.proofs.Laws.{passed, failed}
+use Rattle.rules.proofs.Laws.{passed, failed}
 use Rattle.recording.proofs.Files.{refused-by, accepted-by, too-short, other-edition, no-extent, out-of-range, by-records}
 use Rattle.recording.proofs.reading.read.Statement.{statement}
 use Rattle.recording.proofs.reading.read.Tie as tie

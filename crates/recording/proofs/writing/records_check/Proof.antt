@@ -2,7 +2,7 @@
 use native.Mathlib.Omega.{arith}
 use borrow.Author.Needs.{needs}
 use mathlib.Core.Path.{sym, _∙_}
-use Rattle.recording.proofs.Laws.{passed, failed}
+use Rattle.rules.proofs.Laws.{passed, failed}
 use Rattle.recording.proofs.Outputs.{ragged, beyond, by-rules}
 use Rattle.recording.proofs.writing.records_check.Statement.{statement}
 use Rattle.recording.proofs.writing.records_check.Tie as tie
