@@ -10,9 +10,14 @@ use lib.Seq.{sets}
 use Rattle.model.specs.declared.Counts.{Counts}
 use Rattle.model.specs.declared.Relation.{Relation}
 use Rattle.model.specs.Recording.{Recording, objectOf}
+use Rattle.model.specs.File.{recordingBy}
 use Rattle.model.specs.Vectors.{Vectors, ordered, unordered}
 use Rattle.model.specs.Pairs.{racePair, Entry, entry, entriesOf, entryNumbers}
-use Rattle.passes.specs.Lent.{Fitting, Placed}
+use Rattle.passes.specs.Lent.{vectorsIn, Fitting, Placed}
+
+-- a definition over a recording, its safe and its recorded vectors, at those that are lent
+abbrev pub over : {A : Type 0} → (Recording → Vectors → Vectors → A) → List ℕ → Counts → List ℕ → List ℕ → A
+over f s c x r = f (recordingBy s c) (vectorsIn s c x) (vectorsIn s c r)
 
 -- records of few cells, the positions of their events, and the safe and the recorded vectors x and r
 pub record Lent (s : List ℕ) (c : Counts) (at x r : List ℕ) : Type 0 where

@@ -11,7 +11,7 @@ ghost use Rattle.model.specs.File.{eventsOf, recordingBy};
 ghost use Rattle.model.specs.Vectors.{Vectors, unordered};
 ghost use Rattle.model.specs.Pairs.{isAccess, isWrite, conflict, racePair, mark, entriesOf, cellEntries, entries};
 ghost use Rattle.passes.specs.Lent.{vectorsIn, Fitting, Numbered, Records, Placed};
-ghost use Rattle.pairs.specs.Lent.{Lent, pairAt, rowAt, Stored, Outcome, relationBy};
+ghost use Rattle.pairs.specs.Lent.{over, Lent, pairAt, rowAt, Stored, Outcome, relationBy};
 use model::Counts;
 use model::Event;
 use model::Relation;
@@ -103,7 +103,7 @@ fn count_row(recs: &[u8], counts: Counts, at: &[u16], safe: &[u16], a: usize) ->
     pairs
 }
 
-// How many entries cell c has. Only an access starts a row.
+// How many entries the cell has. Only an access starts a row.
 fn count_cell(recs: &[u8], counts: Counts, at: &[u16], safe: &[u16], cell: u16) -> usize
     requires { ⌜ Placed (now recs) counts (now at) × Fitting (now recs) counts (now safe) ⌝ }
     ensures { λ r. ⌜ ((R : Vectors) → r ≡ length (cellEntries (recordingBy (now (recs .entry)) counts) (vectorsIn (now (recs .entry)) counts (now (safe .entry))) R cell)) ⌝ }
@@ -158,8 +158,8 @@ fn list_pair(
     p: usize,
 ) -> usize
     requires { ⌜ Lent (now recs) counts (now at) (now safe) (now recorded) × (a < b) × Numbered (now recs) b ⌝ }
-    requires { ⌜ p + 3 * length (pairAt (recordingBy (now recs) counts) (vectorsIn (now recs) counts (now safe)) (vectorsIn (now recs) counts (now recorded)) a b) ≤ length (now out) ⌝ }
-    ensures { λ r. ⌜ Stored (now (out .entry)) p (pairAt (recordingBy (now (recs .entry)) counts) (vectorsIn (now (recs .entry)) counts (now (safe .entry))) (vectorsIn (now (recs .entry)) counts (now (recorded .entry))) a b) (now (out .exit)) r ⌝ }
+    requires { ⌜ p + 3 * length (over pairAt (now recs) counts (now safe) (now recorded) a b) ≤ length (now out) ⌝ }
+    ensures { λ r. ⌜ Stored (now (out .entry)) p (over pairAt (now (recs .entry)) counts (now (safe .entry)) (now (recorded .entry)) a b) (now (out .exit)) r ⌝ }
 {
     if !race_pair(recs, counts, at, safe, a, b) {
         return p;
@@ -181,8 +181,8 @@ fn list_row(
     p: usize,
 ) -> usize
     requires { ⌜ Lent (now recs) counts (now at) (now safe) (now recorded) × Numbered (now recs) a ⌝ }
-    requires { ⌜ p + 3 * length (entriesOf (recordingBy (now recs) counts) (vectorsIn (now recs) counts (now safe)) (vectorsIn (now recs) counts (now recorded)) a) ≤ length (now out) ⌝ }
-    ensures { λ r. ⌜ Stored (now (out .entry)) p (entriesOf (recordingBy (now (recs .entry)) counts) (vectorsIn (now (recs .entry)) counts (now (safe .entry))) (vectorsIn (now (recs .entry)) counts (now (recorded .entry))) a) (now (out .exit)) r ⌝ }
+    requires { ⌜ p + 3 * length (over entriesOf (now recs) counts (now safe) (now recorded) a) ≤ length (now out) ⌝ }
+    ensures { λ r. ⌜ Stored (now (out .entry)) p (over entriesOf (now (recs .entry)) counts (now (safe .entry)) (now (recorded .entry)) a) (now (out .exit)) r ⌝ }
 {
     let n = recs.len() / 4;
     let mut next = p;
@@ -207,8 +207,8 @@ fn list_access(
     p: usize,
 ) -> usize
     requires { ⌜ Lent (now recs) counts (now at) (now safe) (now recorded) × Numbered (now recs) a ⌝ }
-    requires { ⌜ p + 3 * length (rowAt (recordingBy (now recs) counts) (vectorsIn (now recs) counts (now safe)) (vectorsIn (now recs) counts (now recorded)) cell a) ≤ length (now out) ⌝ }
-    ensures { λ r. ⌜ Stored (now (out .entry)) p (rowAt (recordingBy (now (recs .entry)) counts) (vectorsIn (now (recs .entry)) counts (now (safe .entry))) (vectorsIn (now (recs .entry)) counts (now (recorded .entry))) cell a) (now (out .exit)) r ⌝ }
+    requires { ⌜ p + 3 * length (over rowAt (now recs) counts (now safe) (now recorded) cell a) ≤ length (now out) ⌝ }
+    ensures { λ r. ⌜ Stored (now (out .entry)) p (over rowAt (now (recs .entry)) counts (now (safe .entry)) (now (recorded .entry)) cell a) (now (out .exit)) r ⌝ }
 {
     if !accesses(recs, a, cell) {
         return p;
@@ -228,8 +228,8 @@ fn list_cell(
     p: usize,
 ) -> usize
     requires { ⌜ Lent (now recs) counts (now at) (now safe) (now recorded) ⌝ }
-    requires { ⌜ p + 3 * length (cellEntries (recordingBy (now recs) counts) (vectorsIn (now recs) counts (now safe)) (vectorsIn (now recs) counts (now recorded)) cell) ≤ length (now out) ⌝ }
-    ensures { λ r. ⌜ Stored (now (out .entry)) p (cellEntries (recordingBy (now (recs .entry)) counts) (vectorsIn (now (recs .entry)) counts (now (safe .entry))) (vectorsIn (now (recs .entry)) counts (now (recorded .entry))) cell) (now (out .exit)) r ⌝ }
+    requires { ⌜ p + 3 * length (over cellEntries (now recs) counts (now safe) (now recorded) cell) ≤ length (now out) ⌝ }
+    ensures { λ r. ⌜ Stored (now (out .entry)) p (over cellEntries (now (recs .entry)) counts (now (safe .entry)) (now (recorded .entry)) cell) (now (out .exit)) r ⌝ }
 {
     let n = recs.len() / 4;
     let mut next = p;
@@ -252,8 +252,8 @@ fn list_all(
     p: usize,
 ) -> usize
     requires { ⌜ Lent (now recs) counts (now at) (now safe) (now recorded) ⌝ }
-    requires { ⌜ p + 3 * length (entries (recordingBy (now recs) counts) (vectorsIn (now recs) counts (now safe)) (vectorsIn (now recs) counts (now recorded))) ≤ length (now out) ⌝ }
-    ensures { λ r. ⌜ Stored (now (out .entry)) p (entries (recordingBy (now (recs .entry)) counts) (vectorsIn (now (recs .entry)) counts (now (safe .entry))) (vectorsIn (now (recs .entry)) counts (now (recorded .entry)))) (now (out .exit)) r ⌝ }
+    requires { ⌜ p + 3 * length (over entries (now recs) counts (now safe) (now recorded)) ≤ length (now out) ⌝ }
+    ensures { λ r. ⌜ Stored (now (out .entry)) p (over entries (now (recs .entry)) counts (now (safe .entry)) (now (recorded .entry))) (now (out .exit)) r ⌝ }
 {
     let cells = counts.cells;
     let mut next = p;
@@ -281,7 +281,7 @@ fn list_placed(
     out: &mut [u16],
 ) -> Listed
     requires { ⌜ Lent (now recs) counts (now at) (now safe) (now recorded) ⌝ }
-    ensures { λ r. ⌜ Outcome (entries (recordingBy (now (recs .entry)) counts) (vectorsIn (now (recs .entry)) counts (now (safe .entry))) (vectorsIn (now (recs .entry)) counts (now (recorded .entry)))) (now (out .entry)) (now (out .exit)) (r .fits) (r .pairs) ⌝ }
+    ensures { λ r. ⌜ Outcome (over entries (now (recs .entry)) counts (now (safe .entry)) (now (recorded .entry))) (now (out .entry)) (now (out .exit)) (r .fits) (r .pairs) ⌝ }
 {
     let pairs = count(recs, counts, at, safe);
     if out.len() < 3 * pairs {
@@ -294,7 +294,7 @@ fn list_placed(
 // Writes the list of the race pairs, or leaves `out` as it was where they do not fit.
 pub fn list(recs: &[u8], counts: Counts, safe: &[u16], recorded: &[u16], out: &mut [u16]) -> Listed
     requires { ⌜ Records (now recs) counts × (counts .cells ≤ 1024) × Fitting (now recs) counts (now safe) × Fitting (now recs) counts (now recorded) ⌝ }
-    ensures { λ r. ⌜ Outcome (entries (recordingBy (now (recs .entry)) counts) (vectorsIn (now (recs .entry)) counts (now (safe .entry))) (vectorsIn (now (recs .entry)) counts (now (recorded .entry)))) (now (out .entry)) (now (out .exit)) (r .fits) (r .pairs) ⌝ }
+    ensures { λ r. ⌜ Outcome (over entries (now (recs .entry)) counts (now (safe .entry)) (now (recorded .entry))) (now (out .entry)) (now (out .exit)) (r .fits) (r .pairs) ⌝ }
 {
     let mut at = [0u16; 1024];
     events::positions(recs, &mut at);
@@ -312,7 +312,7 @@ fn relation_placed(
     b: usize,
 ) -> Relation
     requires { ⌜ Lent (now recs) counts (now at) (now safe) (now recorded) × Numbered (now recs) a × Numbered (now recs) b ⌝ }
-    ensures { λ r. ⌜ r ≡ relationBy (recordingBy (now (recs .entry)) counts) (vectorsIn (now (recs .entry)) counts (now (safe .entry))) (vectorsIn (now (recs .entry)) counts (now (recorded .entry))) a b ⌝ }
+    ensures { λ r. ⌜ r ≡ over relationBy (now (recs .entry)) counts (now (safe .entry)) (now (recorded .entry)) a b ⌝ }
 {
     if passes::ordered(recs, counts, at, safe, a, b) {
         return Relation::First;
@@ -337,7 +337,7 @@ pub fn relation(
 ) -> Relation
     requires { ⌜ Records (now recs) counts × (counts .cells ≤ 1024) × Fitting (now recs) counts (now safe) × Fitting (now recs) counts (now recorded) ⌝ }
     requires { ⌜ Numbered (now recs) a × Numbered (now recs) b ⌝ }
-    ensures { λ r. ⌜ r ≡ relationBy (recordingBy (now (recs .entry)) counts) (vectorsIn (now (recs .entry)) counts (now (safe .entry))) (vectorsIn (now (recs .entry)) counts (now (recorded .entry))) a b ⌝ }
+    ensures { λ r. ⌜ r ≡ over relationBy (now (recs .entry)) counts (now (safe .entry)) (now (recorded .entry)) a b ⌝ }
 {
     let mut at = [0u16; 1024];
     events::positions(recs, &mut at);
