@@ -1,0 +1,26 @@
+-- `recording::writing::trailer` meets its contract. The bytes of the code are those of the definition. Assumes nothing.
+use native.Mathlib.Omega.{arith}
+use mathlib.Core.Path.{refl}
+use Rattle.model.specs.Writing.{trailerBytes}
+use Rattle.recording.proofs.writing.trailer.Statement.{statement}
+use Rattle.recording.proofs.writing.trailer.Tie as tie
+
+returns : tie.Need-returns
+unfolding trailerBytes
+returns c = refl
+
+pub trailer-spec : {M : Type 1} → statement M
+trailer-spec =
+    tie.close
+    (tie.spec
+    (λ c. omega arith)
+    (λ c. omega arith)
+    (λ c. omega arith)
+    (λ c. omega arith)
+    (λ c. omega arith)
+    (λ c. omega arith)
+    (λ c. omega arith)
+    (λ c. omega arith)
+    (λ c. omega arith)
+    (λ c. omega arith)
+    returns)

@@ -1,0 +1,91 @@
+// Reading a file: its header, or its refusal, and the parts of it.
+ghost use mathlib.Core.Path.{_≡_};
+ghost use Prim.Native.Nat.{_+_, _≤_, _<_};
+ghost use lib.ListN.{length};
+ghost use Rattle.model.specs.File.{u32At, headerOf};
+ghost use Rattle.model.specs.Reading.{readingOf, preambleOf, recordsOf};
+use crate::rules::first_fault;
+use crate::rules::in_range;
+use model::Check;
+use model::Counts;
+use model::Header;
+use model::Reading;
+use model::Refusal;
+
+// The number of four bytes, little-endian.
+fn u32_at(s: &[u8], i: usize) -> usize
+    requires { ⌜ i + 3 < length (now s) ⌝ }
+    ensures { λ r. ⌜ (r ≡ u32At (now (s .entry)) i) × (r < 4294967296) ⌝ }
+{
+    (events::u16_at(s, i) as usize) + 65536 * (events::u16_at(s, i + 2) as usize)
+}
+
+fn header_of(file: &[u8]) -> Header
+    requires { ⌜ 16 ≤ length (now file) ⌝ }
+    ensures { λ r. ⌜ (r ≡ headerOf (now (file .entry))) × (r .start < 4294967296) × (r .records < 4294967296) ⌝ }
+{
+    let t = file.len() - 16;
+    Header {
+        start: u32_at(file, t),
+        records: u32_at(file, t + 4),
+        counts: Counts {
+            tasks: events::u16_at(file, t + 8),
+            semaphores: events::u16_at(file, t + 10),
+            cells: events::u16_at(file, t + 12),
+        },
+    }
+}
+
+// Reads a file: its header, or the first refusal of the table.
+pub fn read(file: &[u8]) -> Reading
+    ensures { λ r. ⌜ r ≡ readingOf (now (file .entry)) ⌝ }
+{
+    if file.len() < 16 {
+        return Reading::Refused(Refusal::Short);
+    }
+    let t = file.len() - 16;
+    if events::u16_at(file, t + 14) != 1 {
+        return Reading::Refused(Refusal::Edition);
+    }
+    let h = header_of(file);
+    let start = h.start;
+    let end = start + 4 * h.records;
+    if end != t {
+        return Reading::Refused(Refusal::Extent);
+    }
+    let counts = h.counts;
+    if !in_range(counts, h.records) {
+        return Reading::Refused(Refusal::Count);
+    }
+    match first_fault(&file[start..end], counts, h.records) {
+        Check::Passed => Reading::Accepted(h),
+        Check::Failed(r) => Reading::Refused(r),
+    }
+}
+
+// The part of the file before the first record; of a refused file, the empty part.
+pub fn preamble(file: &[u8]) -> &[u8]
+    ensures { λ r. ⌜ now r ≡ preambleOf (now (file .entry)) ⌝ }
+{
+    match read(file) {
+        Reading::Accepted(h) => {
+            let start = h.start;
+            &file[..start]
+        }
+        Reading::Refused(_) => &file[..0],
+    }
+}
+
+// The records' part of the file; of a refused file, the empty part.
+pub fn records(file: &[u8]) -> &[u8]
+    ensures { λ r. ⌜ now r ≡ recordsOf (now (file .entry)) ⌝ }
+{
+    match read(file) {
+        Reading::Accepted(h) => {
+            let start = h.start;
+            let end = start + 4 * h.records;
+            &file[start..end]
+        }
+        Reading::Refused(_) => &file[..0],
+    }
+}
