@@ -1,22 +1,22 @@
 -- What it says of a file that reading accepts it.
 -- Assumes nothing.
-use Prim.Native.Nat.{ℕ, _+_, _-_, _*_, _/_, _≤_}
-use mathlib.Core.Path.{_≡_, refl, sym, ap, _∙_}
+use Prim.Native.Nat.{ℕ, _+_, _*_, _/_, _≤_}
+use mathlib.Core.Path.{_≡_, refl, _∙_}
 use mathlib.Core.Bool.{true, _&&_}
 use mathlib.Core.List.{List}
 use native.Mathlib.Omega.{arith}
-use lib.Dec.{leb, eqb}
-use lib.ListN.{length, take, drop, length-take, length-drop}
+use lib.Dec.{leb}
+use lib.ListN.{length, length-take, length-drop}
 use Rattle.model.specs.declared.Counts.{Counts}
 use Rattle.model.specs.declared.Header.{Header}
 use Rattle.model.specs.declared.Check.{Check}
 use Rattle.model.specs.declared.Reading.{Reading}
-use Rattle.model.specs.Recording.{Recording, size, noEvent, Accepted, firstFault}
+use Rattle.model.specs.Recording.{size, noEvent, Accepted}
 use Rattle.model.specs.File.{eventAt, eventsOf, trailer, headerOf, editionOf, recordBytes, recordingOf}
 use Rattle.model.specs.Reading.{extentMet, inRange, fileCheck, readingBy, readingOf}
 use Rattle.model.proofs.Tests.{first, second, leb-true, eqb-true}
 use Rattle.model.proofs.Checks.{unless-passed}
-use Rattle.model.proofs.Lists.{listOf-length, listOf-at}
+use Rattle.model.proofs.Lists.{listOf-length}
 
 -- the counts of a file with n records are within their ranges
 pub record InRange (c : Counts) (n : ℕ) : Type 0 where

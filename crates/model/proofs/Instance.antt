@@ -1,14 +1,14 @@
 -- The promise speaks of something: the printed file of document 01 is accepted, its settled list has an entry that is sure, and
 -- two of its events conflict and are off the list. Assumes nothing.
 use Prim.Native.Nat.{ℕ}
-use mathlib.Core.Path.{_≡_, refl, ap, subst, _∙_}
+use mathlib.Core.Path.{_≡_, refl, ap, subst}
 use mathlib.Core.Logic.{_⊎_, inl, inr}
-use mathlib.Core.Bool.{Bool, true}
-use mathlib.Core.List.{List, [], _∷_, List·Memᴰ, List·Memᴰ·head, List·Memᴰ·eq-of-singleton}
+use mathlib.Core.Bool.{true}
+use mathlib.Core.List.{[], _∷_, List·Memᴰ, List·Memᴰ·head, List·Memᴰ·eq-of-singleton}
 use native.Mathlib.Omega.{arith}
 use Rattle.model.specs.declared.Reading.{Reading}
 use Rattle.model.specs.Numbers.{sum, count, filter, listFrom, each, picked, lastOf, nth, largest, insert, sort, kthLeast}
-use Rattle.model.specs.Recording.{Recording, event, waitKept, lifeKept, classOf, knownKind, named, recordCheck, firstFault}
+use Rattle.model.specs.Recording.{event, waitKept, lifeKept, classOf, knownKind, named, recordCheck, firstFault}
 use Rattle.model.specs.File.{u16At, u32At, eventAt, eventsOf, headerOf, editionOf, recordBytes, recordingOf}
 use Rattle.model.specs.Reading.{extentMet, inRange, fileCheck, readingOf}
 use Rattle.model.specs.Vectors.{position, start, ordered, unordered}

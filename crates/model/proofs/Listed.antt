@@ -1,9 +1,9 @@
 -- What stands on the list, and that a larger budget leaves no more on it.
 -- Assumes nothing.
 use Prim.Native.Nat.{ℕ, zero, suc, _<_}
-use mathlib.Core.Path.{_≡_, refl, sym, ap, subst, _∙_}
+use mathlib.Core.Path.{_≡_, refl, sym, ap, subst}
 use mathlib.Core.Logic.{_⊎_, inl, inr}
-use mathlib.Core.Bool.{Bool, true, false, cond, not, _&&_}
+use mathlib.Core.Bool.{Bool, true, false, cond, not}
 use mathlib.Core.List.{List, [], _∷_, List·Memᴰ, List·Memᴰ·head, List·Memᴰ·not-nil, List·Memᴰ·eq-of-singleton, List·Memᴰ·append-cases, Memᴰ·append-left, Memᴰ·append-right}
 use native.Mathlib.Nat.{le-refl, le-trans, not-suc-le-zero}
 use native.Mathlib.Omega.{arith}
@@ -13,7 +13,7 @@ use Rattle.model.specs.declared.Counts.{Counts}
 use Rattle.model.specs.Numbers.{each}
 use Rattle.model.specs.Recording.{Recording, size, cells, event, taskOf, objectOf, classOf, namesOf}
 use Rattle.model.specs.Vectors.{Vectors, number, position, ordered, unordered}
-use Rattle.model.specs.Pairs.{isAccess, isWrite, conflict, racePair, Entry, entry, mark, entriesOf, cellEntries, entries}
+use Rattle.model.specs.Pairs.{isAccess, isWrite, conflict, racePair, Entry, entry, entriesOf, cellEntries, entries}
 use Rattle.model.proofs.Tests.{clash, fails, of-not, to-not, both, first, second, all-three, either, last-or-lower, le-leb, leb-true, ltb-true, eqb-true, eq-eqb}
 use Rattle.model.proofs.Climb.{AtMost}
 

@@ -3,17 +3,17 @@
 -- Assumes nothing.
 use Prim.Native.Nat.{ℕ, _≤_, _<_}
 use mathlib.Core.Path.{_≡_, refl, sym, ap, subst, subst₂, _∙_}
-use mathlib.Core.Logic.{_⊎_, inl, inr}
+use mathlib.Core.Logic.{inl, inr}
 use mathlib.Core.Bool.{Bool, true, false, cond, not}
 use mathlib.Core.List.{List·Memᴰ}
 use native.Mathlib.Omega.{arith}
 use lib.Dec.{eqb}
-use Rattle.model.specs.Recording.{Recording, size, event, cells, objectOf, Accepted}
+use Rattle.model.specs.Recording.{Recording, size, event, objectOf, Accepted}
 use Rattle.model.specs.Orders.{Admissible, Always, Sometimes}
 use Rattle.model.specs.Vectors.{ordered, unordered}
 use Rattle.model.specs.Passes.{Run, needed, candidates, stepOne, passTo, run}
 use Rattle.model.specs.Recorded.{recorded}
-use Rattle.model.specs.Pairs.{Entry, conflict, racePair, mark, entry, entries, listed, OnList}
+use Rattle.model.specs.Pairs.{Entry, conflict, racePair, mark, entries, listed, OnList}
 use Rattle.model.specs.Promise.{Promise, Promised}
 use Rattle.model.proofs.Tests.{cases, of-not, to-not, both, first, and-false, lt-ltb, ne-eqb}
 use Rattle.model.proofs.Accept.{object-inside}
@@ -23,7 +23,7 @@ use Rattle.model.proofs.Climb.{run-shaped, run-safe, settled-stays, bud
 use Rattle.model.proofs.Settle.{settles}
 use Rattle.model.proofs.Recorded.{upTo}
 use Rattle.model.proofs.Forward.{bringForward, forward-admissible, forward-precedes}
-use Rattle.model.proofs.Listed.{Entered, entry-of, entry-in, pair-lower, ordered-more, race-more, conflict-cell}
+use Rattle.model.proofs.Listed.{entry-of, entry-in, pair-lower, ordered-more, race-more, conflict-cell}
 use Rattle.model.proofs.Files.{accepted-recording}
 use lib.ListN.{length}
 

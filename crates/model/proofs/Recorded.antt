@@ -4,23 +4,23 @@ use Prim.Native.Nat.{ℕ, zero, suc, _≤_, _<_, max, zero-le}
 use mathlib.Core.Path.{_≡_, refl, sym, ap, ap₂, subst, _∙_}
 use mathlib.Core.Logic.{_⊎_, inl, inr}
 use mathlib.Core.Bool.{Bool, true, false, cond, _&&_}
-use mathlib.Core.List.{List, [], List·Memᴰ, List·Memᴰ·append-cases, Memᴰ·append-left}
+use mathlib.Core.List.{[], List·Memᴰ, List·Memᴰ·append-cases, Memᴰ·append-left}
 use Rattle.model.specs.declared.Found.{Found}
 use native.Mathlib.Nat.{le-refl, le-trans, le-of-eq, not-suc-le-zero, le-max-left, le-max-right}
 use native.Mathlib.Decide.{le-ind}
 use native.Mathlib.Omega.{arith}
 use lib.Dec.{leb, ltb, eqb}
 use lib.ListN.{getD, set, List·getD-eq-default}
-use Rattle.model.specs.Numbers.{tally, largest, found, listOf}
+use Rattle.model.specs.Numbers.{tally, largest, found}
 use Rattle.model.specs.Recording.{event, ofTask, isSignal, isWait, Accepted, Recording, size, taskOf, kindOf, objectOf, tasks}
 use Rattle.model.specs.Orders.{Admissible}
 use Rattle.model.specs.Vectors.{position, Vectors, number, start}
 use Rattle.model.specs.Passes.{sources, gathered, signalsOn}
 use Rattle.model.specs.Recorded.{waitsBefore, matchWhere, matched, causes, recordedTo, recorded}
-use Rattle.model.proofs.Tests.{cases, both, first, second, tests, compared, ltb-true, ltb-false, eqb-true, eq-eqb, le-leb, leb-true, leb-false}
-use Rattle.model.proofs.Sum.{tally-grow, tally-has, tally-ext, tally-cut, ranked, rank-rises}
+use Rattle.model.proofs.Tests.{cases, tests, compared, ltb-true, ltb-false, eqb-true, eq-eqb, le-leb, leb-true, leb-false}
+use Rattle.model.proofs.Sum.{tally-grow, tally-ext, tally-cut}
 use Rattle.model.proofs.Least.{largest-has, largest-ext, largest-reached}
-use Rattle.model.proofs.Lists.{listOf-at, number-set-same, number-set-other}
+use Rattle.model.proofs.Lists.{number-set-same, number-set-other}
 use Rattle.model.proofs.Positions.{start-at, position-pos, position-rises, position-grows}
 use Rattle.model.proofs.Picked.{nth-of, nth-found}
 use Rattle.model.proofs.Rules.{sooner, wait-served}

@@ -1,32 +1,29 @@
 -- Writing and reading undo each other, for files without a preamble; and writing refuses what reading the written file would.
 -- The trailer of a written file stands behind its records, so each of its fields is read off the bytes that were written.
 -- Assumes nothing.
-use Prim.Native.Nat.{ℕ, _+_, _-_, _*_, _/_, _%_, _≤_, _<_}
+use Prim.Native.Nat.{ℕ, _+_, _*_, _/_, _%_, _≤_, _<_}
 use mathlib.Core.Path.{_≡_, refl, sym, ap, ap₂, subst, _∙_}
-use mathlib.Core.Bool.{Bool, true}
+use mathlib.Core.Bool.{true}
 use mathlib.Core.List.{List, [], _∷_, _++_}
 use native.Mathlib.Nat.{add-assoc, add-zero}
 use native.Mathlib.Omega.{arith}
 use lib.Dec.{leb, eqb}
 use lib.ListN.{length, getD, take, drop, length-append, length-take, length-drop, take-append-drop}
-use lib.Seq.{getD-append-add, getD-drop, ext-getD, take-at, drop-at}
+use lib.Seq.{getD-append-add, getD-drop, ext-getD, take-at}
 use Rattle.model.specs.declared.Counts.{Counts}
 use Rattle.model.specs.declared.Header.{Header}
-use Rattle.model.specs.declared.Refusal.{Refusal}
 use Rattle.model.specs.declared.Check.{Check}
 use Rattle.model.specs.declared.Reading.{Reading}
 use Rattle.model.specs.declared.Written.{Written}
 use Rattle.model.specs.Numbers.{listFrom, listOf}
-use Rattle.model.specs.Refusals.{unless, andThen, after}
-use Rattle.model.specs.Recording.{Recording, size, firstFault}
-use Rattle.model.specs.File.{u16At, u32At, eventsOf, trailer, headerOf, editionOf, recordBytes, recordingBy, recordingOf}
+use Rattle.model.specs.File.{u16At, u32At, trailer, headerOf, editionOf, recordBytes, recordingOf}
 use Rattle.model.specs.Reading.{extentMet, inRange, fileCheck, readingBy, readingOf, recordsOf}
 use Rattle.model.specs.Writing.{u16Bytes, u32Bytes, trailerBytes, fileOf, recordsCheck, writingCheck, writtenBy, writtenOf, outAfter}
 use Rattle.model.specs.RoundTrip.{Fits, Bytes, RoundTrip}
-use Rattle.model.proofs.Tests.{leb-true, le-leb, eqb-true, eq-eqb}
+use Rattle.model.proofs.Tests.{le-leb, eqb-true, eq-eqb}
 use Rattle.model.proofs.Checks.{unless-passed, then-passed}
 use Rattle.model.proofs.Lists.{listOf-length, listOf-at}
-use Rattle.model.proofs.Files.{InRange, in-range, Sound, sound, reading-passed, bytes-length}
+use Rattle.model.proofs.Files.{in-range, Sound, sound, reading-passed, bytes-length}
 
 -- ---- numbers behind the records
 

@@ -136,22 +136,22 @@ module _ (E : Recording) (o : List ℕ) (adm : Admissible E o) where
       let (f, k, h) = tally-hit (λ a. isFork (objectOf E j) (event E a) && sooner o a j) (size E) (omega tests) in
       (f, k, first (isFork (objectOf E j) (event E f)) (sooner o f j) h, ltb-true _ _ (second (isFork (objectOf E j) (event E f)) (sooner o f j) h))
 
+  -- an object has one event of kind k, where the rules allow no second
+  one-of : (k : ℕ) → ((g : ℕ) → g < size E → eqb (kindOf E g) k ≡ true → eqb (count (isOn k (objectOf E g)) (earlier E o g)) 0 ≡ true)
+      → (t f g : ℕ) → f < size E → g < size E → isOn k t (event E f) ≡ true → isOn k t (event E g) ≡ true → f ≡ g
+  one-of k rule t f g i j p q = single f g i j (no-second f g i j p q) (no-second g f j i q p)
+    where
+      no-second : (f g : ℕ) → f < size E → g < size E → isOn k t (event E f) ≡ true → isOn k t (event E g) ≡ true → ¬ (Precedes o f g)
+      no-second f g i j p q =
+          nothing-before (isOn k (objectOf E g)) g f (rule g j (kind-is k t (event E g) q)) i
+          (subst (λ (x : ℕ). isOn k x (event E f) ≡ true) (sym (object-is k t (event E g) q)) p)
+
   -- a task has one fork and one join
-  no-second-fork : (t f g : ℕ) → f < size E → g < size E → isFork t (event E f) ≡ true → isFork t (event E g) ≡ true → ¬ (Precedes o f g)
-  no-second-fork t f g k l p q =
-      nothing-before (isFork (objectOf E g)) g f (fork-rest g l (kind-is 3 t (event E g) q) .1) k
-      (subst (λ (x : ℕ). isFork x (event E f) ≡ true) (sym (object-is 3 t (event E g) q)) p)
-
   pub one-fork : (t f g : ℕ) → f < size E → g < size E → isFork t (event E f) ≡ true → isFork t (event E g) ≡ true → f ≡ g
-  one-fork t f g k l p q = single f g k l (no-second-fork t f g k l p q) (no-second-fork t g f l k q p)
-
-  no-second-join : (t f g : ℕ) → f < size E → g < size E → isJoin t (event E f) ≡ true → isJoin t (event E g) ≡ true → ¬ (Precedes o f g)
-  no-second-join t f g k l p q =
-      nothing-before (isJoin (objectOf E g)) g f (join-rest g l (kind-is 4 t (event E g) q) .2) k
-      (subst (λ (x : ℕ). isJoin x (event E f) ≡ true) (sym (object-is 4 t (event E g) q)) p)
+  one-fork = one-of 3 (λ g l t. fork-rest g l t .1)
 
   pub one-join : (t f g : ℕ) → f < size E → g < size E → isJoin t (event E f) ≡ true → isJoin t (event E g) ≡ true → f ≡ g
-  one-join t f g k l p q = single f g k l (no-second-join t f g k l p q) (no-second-join t g f l k q p)
+  one-join = one-of 4 (λ g l t. join-rest g l t .2)
 
   -- before a wait there are more signals than waits on its semaphore
   pub wait-served : (e : ℕ) → e < size E → eqb (kindOf E e) 2 ≡ true

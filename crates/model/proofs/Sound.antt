@@ -35,7 +35,7 @@ Safe E o X = (e t : ℕ) → e < size E → number X e t ≤ seen E o e t
 candidate-inside : (E : Recording) (X : Vectors) (e s : ℕ) → List·Memᴰ s (candidates E X e) → s < size E
 unfolding candidates signalsOn
 candidate-inside E X e s m =
-    picked-mem (λ a. isSignal (objectOf E e) (event E a)) s (size E) (filter-mem (λ s. not (ordered E X e s)) (signalsOn E (objectOf E e)) m .0) .0
+    picked-mem (λ a. isSignal (objectOf E e) (event E a)) s (size E) (filter-mem _ (signalsOn E (objectOf E e)) m .0) .0
 
 -- ---- lengths: one vector for each event
 

@@ -1,11 +1,10 @@
 -- The starred recordings of document 01, as rows of one theorem on the definitions, and edge files as rows of another.
 -- Each row computes the whole way from a file's bytes. Assumes nothing.
-use Prim.Native.Nat.{ℕ, _*_, _/_}
+use Prim.Native.Nat.{ℕ, _/_}
 use mathlib.Core.Path.{_≡_, refl}
 use mathlib.Core.Bool.{Bool, true, false}
-use mathlib.Core.List.{List, [], _∷_, _++_, map}
+use mathlib.Core.List.{List, [], _∷_, _++_}
 use lib.ListN.{length, replicate}
-use Rattle.model.specs.declared.Counts.{Counts}
 use Rattle.model.specs.declared.Refusal.{Refusal}
 use Rattle.model.specs.declared.Reading.{Reading}
 use Rattle.model.specs.declared.Analysis.{Analysis}

@@ -83,8 +83,8 @@ pub fn records(file: &[u8]) -> &[u8]
     match read(file) {
         Reading::Accepted(h) => {
             let start = h.start;
-            let end = start + 4 * h.records;
-            &file[start..end]
+            let stop = start + 4 * h.records;
+            &file[start..stop]
         }
         Reading::Refused(_) => &file[..0],
     }

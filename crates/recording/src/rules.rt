@@ -34,15 +34,15 @@ const FORK: u8 = 3;
 
 const JOIN: u8 = 4;
 
-// What the object of each kind names. No kind is 0.
+// What the object of each kind names.
 const CLASS: [Class; 7] = [
-    Class::Nothing,
-    Class::Semaphore,
-    Class::Semaphore,
-    Class::Task,
-    Class::Task,
-    Class::Cell,
-    Class::Cell,
+    Class::Nothing, // 0 is no kind
+    Class::Semaphore, // 1 signal
+    Class::Semaphore, // 2 wait
+    Class::Task, // 3 fork
+    Class::Task, // 4 join
+    Class::Cell, // 5 read
+    Class::Cell, // 6 write
 ];
 
 fn class_of(kind: u8) -> Class

@@ -46,11 +46,11 @@ fn trailer(n: usize, counts: Counts) -> [u8; 16]
     let low = n % 65536;
     let high = n / 65536;
     [
+        0, // start
         0,
         0,
         0,
-        0,
-        (low % 256) as u8,
+        (low % 256) as u8, // number of records
         (low / 256 % 256) as u8,
         (high % 256) as u8,
         (high / 256 % 256) as u8,
@@ -60,7 +60,7 @@ fn trailer(n: usize, counts: Counts) -> [u8; 16]
         (counts.semaphores / 256 % 256) as u8,
         (counts.cells % 256) as u8,
         (counts.cells / 256 % 256) as u8,
-        1,
+        1, // edition
         0,
     ]
 }

@@ -6,11 +6,11 @@ use Rattle.recording.proofs.Files.{within, the-records, no-records}
 use Rattle.recording.proofs.reading.records.Statement.{statement}
 use Rattle.recording.proofs.reading.records.Tie as tie
 
-mul-end : tie.Need-mul-end
-mul-end c = let w = within _ _ (sym (c .before .before .before .before .read .ensures) ∙ c .before .before .h .given .1) in omega arith
+mul-stop : tie.Need-mul-stop
+mul-stop c = let w = within _ _ (sym (c .before .before .before .before .read .ensures) ∙ c .before .before .h .given .1) in omega arith
 
-add-end : tie.Need-add-end
-add-end c = let w = within _ _ (sym (c .before .before .before .before .read .ensures) ∙ c .before .before .h .given .1) in omega arith
+add-stop : tie.Need-add-stop
+add-stop c = let w = within _ _ (sym (c .before .before .before .before .read .ensures) ∙ c .before .before .h .given .1) in omega arith
 
 part-result-end : tie.Need-part-result-end
 part-result-end c = let w = within _ _ (sym (c .before .before .before .before .read .ensures) ∙ c .before .before .h .given .1) in omega arith
@@ -27,8 +27,8 @@ records-spec =
     (tie.spec
     (λ c κs. search needs)
     (λ c. search needs)
-    mul-end
-    add-end
+    mul-stop
+    add-stop
     (λ c. omega arith)
     (λ c. omega arith)
     part-result-end

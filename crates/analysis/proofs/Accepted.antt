@@ -1,0 +1,62 @@
+-- The records of a file that reading accepts.
+-- Assumes nothing.
+use mathlib.Core.Path.{_≡_, sym, ap, ap₂, subst, _∙_}
+use mathlib.Core.List.{List}
+use Prim.Native.Nat.{ℕ, _*_}
+use native.Mathlib.Omega.{arith}
+use lib.ListN.{length}
+use Rattle.model.specs.declared.Counts.{Counts}
+use Rattle.model.specs.declared.Header.{Header}
+use Rattle.model.specs.declared.Refusal.{Refusal}
+use Rattle.model.specs.declared.Check.{Check}
+use Rattle.model.specs.declared.Reading.{Reading}
+use Rattle.model.specs.Recording.{size, Accepted}
+use Rattle.model.specs.File.{headerOf, recordBytes, recordingBy, recordingOf}
+use Rattle.model.specs.Reading.{fileCheck, readingBy, readingOf, recordsOf}
+use Rattle.model.proofs.Accept.{task-inside}
+use Rattle.model.proofs.Files.{sound, reading-passed, bytes-length, size-records}
+use Rattle.analysis.specs.Lent.{Ready}
+
+pub refused-by : (f : List ℕ) (r : Refusal) → readingOf f ≡ Reading.Refused r → fileCheck f ≡ Check.Failed r
+unfolding readingOf
+refused-by f r q = go (fileCheck f) q
+  where
+    go : (c : Check) → readingBy (headerOf f) c ≡ Reading.Refused r → c ≡ Check.Failed r
+    go Check.Passed q = let z : _≡_ {A = ℕ} 0 1 = cc in absurd (omega arith)
+    go (Check.Failed s) q = cc
+
+module _ (f : List ℕ) (h : Header) (q : readingOf f ≡ Reading.Accepted h) where
+  pub passed : fileCheck f ≡ Check.Passed
+  passed = reading-passed f h q
+
+  header : h ≡ headerOf f
+  unfolding readingOf
+  header = let e : readingBy (headerOf f) (fileCheck f) ≡ Reading.Accepted (headerOf f) = rw passed in cc
+
+  bytes : recordsOf f ≡ recordBytes f (headerOf f)
+  unfolding recordsOf
+  bytes = rw passed
+
+  module _ (s : List ℕ) (e : s ≡ recordsOf f) where
+    pub the-recording : recordingBy s (h .counts) ≡ recordingOf f
+    unfolding recordingOf
+    the-recording = ap₂ recordingBy (e ∙ bytes) (ap (λ (x : Header). x .counts) header)
+
+    pub ready : Ready s (h .counts)
+    ready =
+        let u = sound f passed in
+        let r = u .range in
+        let n : size (recordingBy s (h .counts)) ≡ headerOf f .records = ap size the-recording ∙ size-records f u in
+        let k : h .counts ≡ headerOf f .counts = ap (λ (x : Header). x .counts) header in
+        let t : h .counts .tasks ≡ headerOf f .counts .tasks = ap (λ (x : Counts). x .tasks) k in
+        let d : h .counts .cells ≡ headerOf f .counts .cells = ap (λ (x : Counts). x .cells) k in
+        record {
+          records =
+              record {
+                whole = ap length (e ∙ bytes) ∙ bytes-length f u ∙ ap (λ (m : ℕ). 4 * m) (sym n);
+                few = omega (arith, n, r .few-records);
+                named = task-inside (recordingBy s (h .counts)) (subst Accepted (sym the-recording) (u .accepted));
+              };
+          tasks = omega (arith, t, r .few-tasks);
+          cells = omega (arith, d, r .few-cells);
+        }

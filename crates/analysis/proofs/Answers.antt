@@ -1,0 +1,86 @@
+-- What analysing a file and a question about two events answer and leave, case by case.
+-- Assumes nothing.
+use mathlib.Core.Path.{_≡_, refl, sym, ap, _∙_}
+use mathlib.Core.Bool.{Bool, true, false, not, _&&_}
+use mathlib.Core.List.{List, _++_}
+use Prim.Native.Nat.{ℕ, _*_}
+use lib.ListN.{length, drop}
+use Rattle.model.specs.declared.Refusal.{Refusal}
+use Rattle.model.specs.declared.Check.{Check}
+use Rattle.model.specs.declared.Reading.{Reading}
+use Rattle.model.specs.declared.Analysis.{Analysis}
+use Rattle.model.specs.declared.Answer.{Answer}
+use Rattle.model.specs.declared.Relation.{Relation}
+use Rattle.model.specs.Refusals.{unless, andThen, after}
+use Rattle.model.specs.Recording.{Recording, size}
+use Rattle.model.specs.File.{headerOf, recordingOf}
+use Rattle.model.specs.Reading.{fileCheck, readingBy, readingOf}
+use Rattle.model.specs.Passes.{passesMade, isSettled}
+use Rattle.model.specs.Pairs.{listed, entryNumbers}
+use Rattle.model.specs.Analysing.{workFits, filled, listFits, workCheck, analysisCheck, analysisBy, analysisOf, workAfter, listAfter}
+use Rattle.model.specs.Question.{relationOf, twoEvents, questionCheck, answerBy, answerOf, askedWork}
+use Rattle.pairs.specs.Lent.{Outcome}
+use Rattle.analysis.specs.Lent.{Analysed, Asked}
+
+-- ---- from a check to what is answered and left
+
+module _ (f : List ℕ) (b : ℕ) (w l : List ℕ) where
+  by-analysis : (k m : Check) → workCheck f w ≡ k → analysisCheck f b w l ≡ m
+      → (a : Analysis) (w′ l′ : List ℕ) → a ≡ analysisBy (recordingOf f) b m
+      → w′ ≡ after k (λ _. filled (recordingOf f) b w) w
+      → l′ ≡ after m (λ _. let es = listed (recordingOf f) b in entryNumbers es ++ drop (3 * length es) l) l → Analysed f b w l a w′ l′
+  unfolding analysisOf workAfter listAfter
+  by-analysis k m p q a w′ l′ x y z = record { answer = x ∙ rw q; work = y ∙ rw p; list = z ∙ rw q }
+
+  -- the file's own refusal
+  pub refused-file : (r : Refusal) → fileCheck f ≡ Check.Failed r → Analysed f b w l (Analysis.Refused r) w l
+  unfolding analysisCheck workCheck
+  refused-file r p = by-analysis (Check.Failed r) (Check.Failed r) (rw p) (rw p) _ _ _ refl refl refl
+
+  module _ (p : fileCheck f ≡ Check.Passed) where
+    pub refused-work : workFits (recordingOf f) w ≡ false → Analysed f b w l (Analysis.Refused Refusal.Work) w l
+    unfolding analysisCheck workCheck
+    refused-work h = by-analysis (Check.Failed Refusal.Work) (Check.Failed Refusal.Work) (rw (p, h)) (rw (p, h)) _ _ _ refl refl refl
+
+    module _ (h : workFits (recordingOf f) w ≡ true) where
+      work-passed : workCheck f w ≡ Check.Passed
+      unfolding workCheck
+      work-passed = rw (p, h)
+
+      -- the list is too short, and the work numbers are filled
+      pub refused-list : (w′ l′ : List ℕ) (n : ℕ) → w′ ≡ filled (recordingOf f) b w → Outcome (listed (recordingOf f) b) l l′ false n
+          → Analysed f b w l (Analysis.Refused (Refusal.List n)) w′ l′
+      unfolding analysisCheck
+      refused-list w′ l′ n e o =
+          by-analysis Check.Passed (Check.Failed (Refusal.List n)) work-passed (rw (work-passed, sym (o .room), o .counted)) _ _ _ refl e (o .written)
+
+      -- all is well
+      pub finished : (w′ l′ : List ℕ) (m n : ℕ) (s : Bool) → w′ ≡ filled (recordingOf f) b w → Outcome (listed (recordingOf f) b) l l′ true n
+          → m ≡ passesMade (recordingOf f) b → s ≡ isSettled (recordingOf f) b → Analysed f b w l (Analysis.Done m s n) w′ l′
+      unfolding analysisCheck
+      finished w′ l′ m n s e o x y =
+          by-analysis Check.Passed Check.Passed work-passed (rw (work-passed, sym (o .room))) _ _ _ (rw (x, y, o .counted)) e (o .written)
+
+module _ (f : List ℕ) (x y b : ℕ) (w : List ℕ) where
+  by-question : (k : Check) → questionCheck f x y w ≡ k → (a : Answer) (w′ : List ℕ) → a ≡ answerBy (recordingOf f) b x y k
+      → w′ ≡ after k (λ _. filled (recordingOf f) b w) w → Asked f x y b w a w′
+  unfolding answerOf askedWork
+  by-question k p a w′ q r = record { answer = q ∙ rw p; work = r ∙ rw p }
+
+  pub asked-file : (r : Refusal) → fileCheck f ≡ Check.Failed r → Asked f x y b w (Answer.Refused r) w
+  unfolding questionCheck
+  asked-file r p = by-question (Check.Failed r) (rw p) _ _ refl refl
+
+  module _ (p : fileCheck f ≡ Check.Passed) where
+    pub asked-event : twoEvents (recordingOf f) x y ≡ false → Asked f x y b w (Answer.Refused Refusal.Event) w
+    unfolding questionCheck
+    asked-event h = by-question (Check.Failed Refusal.Event) (rw (p, h)) _ _ refl refl
+
+    pub asked-work : twoEvents (recordingOf f) x y ≡ true → workFits (recordingOf f) w ≡ false → Asked f x y b w (Answer.Refused Refusal.Work) w
+    unfolding questionCheck
+    asked-work h k = by-question (Check.Failed Refusal.Work) (rw (p, h, k)) _ _ refl refl
+
+    pub related : twoEvents (recordingOf f) x y ≡ true → workFits (recordingOf f) w ≡ true → (r : Relation) (w′ : List ℕ) → r ≡ relationOf (recordingOf f) b x y
+        → w′ ≡ filled (recordingOf f) b w → Asked f x y b w (Answer.Related r) w′
+    unfolding questionCheck
+    related h k r w′ e q = by-question Check.Passed (rw (p, h, k)) _ _ (ap (λ (s : Relation). Answer.Related s) e) q

@@ -1,0 +1,97 @@
+-- The cases of an accepted file, as its records and the lent numbers show them.
+-- Assumes nothing.
+use mathlib.Core.Path.{_≡_, refl, sym, ap, ap₂, subst, _∙_}
+use mathlib.Core.Bool.{Bool, true, false, not}
+use mathlib.Core.List.{List}
+use Prim.Native.Nat.{ℕ, _*_, _≤_, _<_}
+use lib.ListN.{length}
+use lib.Dec.{eqb, ltb}
+use Rattle.model.specs.declared.Header.{Header}
+use Rattle.model.specs.declared.Refusal.{Refusal}
+use Rattle.model.specs.declared.Reading.{Reading}
+use Rattle.model.specs.declared.Analysis.{Analysis}
+use Rattle.model.specs.declared.Answer.{Answer}
+use Rattle.model.specs.declared.Relation.{Relation}
+use Rattle.model.specs.Recording.{Recording, size}
+use Rattle.model.specs.File.{recordingBy, recordingOf}
+use Rattle.model.specs.Reading.{readingOf, recordsOf}
+use Rattle.model.specs.Passes.{safeVectors, passesMade, isSettled}
+use Rattle.model.specs.Vectors.{Vectors}
+use Rattle.model.specs.Recorded.{recorded}
+use Rattle.model.specs.Pairs.{Entry, entries, listed}
+use Rattle.model.specs.Analysing.{workFits, filled}
+use Rattle.model.specs.Question.{relationOf, twoEvents}
+use Rattle.model.proofs.Tests.{all-three, leb-true, ltb-true}
+use Rattle.passes.specs.Lent.{Numbered}
+use Rattle.pairs.specs.Lent.{Outcome, relationBy}
+use Rattle.analysis.specs.Lent.{numbers, Roomy, safeIn, recordedIn, Analysed, Asked}
+use Rattle.analysis.proofs.Parts.{safe-filled, recorded-filled}
+use Rattle.analysis.proofs.Accepted.{passed, the-recording}
+use Rattle.analysis.proofs.Answers.{refused-work, refused-list, finished, asked-event, asked-work, related}
+
+module _ (f : List ℕ) (h : Header) (q : readingOf f ≡ Reading.Accepted h) (s : List ℕ) (e : s ≡ recordsOf f) (b : ℕ) (w : List ℕ) where
+  abbrev E : Recording
+  E = recordingBy s (h .counts)
+
+  same : E ≡ recordingOf f
+  same = the-recording f h q s e
+
+  fits : (x : Bool) → workFits E w ≡ x → workFits (recordingOf f) w ≡ x
+  fits x p = sym (ap (λ (F : Recording). workFits F w) same) ∙ p
+
+  pub roomy : workFits E w ≡ true → Roomy s (h .counts) w
+  roomy p = leb-true (2 * numbers s (h .counts)) (length w) p
+
+  -- ---- analysing
+
+  pub short-work : (l : List ℕ) → workFits E w ≡ false → Analysed f b w l (Analysis.Refused Refusal.Work) w l
+  short-work l p = refused-work f b w l (passed f h q) (fits false p)
+
+  module _ (p : workFits E w ≡ true) (w′ : List ℕ) (k : w′ ≡ filled E b w) where
+    now-filled : w′ ≡ filled (recordingOf f) b w
+    now-filled = k ∙ ap (λ (F : Recording). filled F b w) same
+
+    safe : safeIn s (h .counts) w′ ≡ safeVectors E b
+    safe = ap (λ (v : List ℕ). safeIn s (h .counts) v) k ∙ safe-filled s (h .counts) b w
+
+    behind : recordedIn s (h .counts) w′ ≡ recorded E
+    behind = ap (λ (v : List ℕ). recordedIn s (h .counts) v) k ∙ recorded-filled s (h .counts) b w
+
+    module _ (l l′ : List ℕ) (n : ℕ) where
+      listing : (t : Bool) → Outcome (entries E (safeIn s (h .counts) w′) (recordedIn s (h .counts) w′)) l l′ t n → Outcome (listed (recordingOf f) b) l l′ t n
+      unfolding listed
+      listing t o =
+          subst (λ (es : List Entry). Outcome es l l′ t n) (ap₂ (entries E) safe behind ∙ ap (λ (F : Recording). listed F b) same) o
+
+      pub short-list : (t : Bool) → t ≡ false → Outcome (entries E (safeIn s (h .counts) w′) (recordedIn s (h .counts) w′)) l l′ t n
+          → Analysed f b w l (Analysis.Refused (Refusal.List n)) w′ l′
+      short-list t z o =
+          refused-list f b w l (passed f h q) (fits true p) w′ l′ n now-filled (rw z at (listing t o))
+
+      pub all-well : (t : Bool) → t ≡ true → Outcome (entries E (safeIn s (h .counts) w′) (recordedIn s (h .counts) w′)) l l′ t n
+          → (m : ℕ) (x : Bool) → m ≡ passesMade E b → x ≡ isSettled E b → Analysed f b w l (Analysis.Done m x n) w′ l′
+      all-well t z o m x u v =
+          finished f b w l (passed f h q) (fits true p) w′ l′ m n x now-filled (rw z at (listing t o)) (u ∙ ap (λ (F : Recording). passesMade F b) same)
+          (v ∙ ap (λ (F : Recording). isSettled F b) same)
+
+  -- ---- the question
+
+  module _ (x y : ℕ) where
+    two : (t : Bool) → twoEvents E x y ≡ t → twoEvents (recordingOf f) x y ≡ t
+    two t p = sym (ap (λ (F : Recording). twoEvents F x y) same) ∙ p
+
+    pub two-numbered : twoEvents E x y ≡ true → Numbered s x × Numbered s y
+    two-numbered t = let (a, b, c) = all-three (ltb x (size E)) (ltb y (size E)) (not (eqb x y)) t in (ltb-true x (size E) a, ltb-true y (size E) b)
+
+    pub no-events : twoEvents E x y ≡ false → Asked f x y b w (Answer.Refused Refusal.Event) w
+    no-events p = asked-event f x y b w (passed f h q) (two false p)
+
+    pub no-work : twoEvents E x y ≡ true → workFits E w ≡ false → Asked f x y b w (Answer.Refused Refusal.Work) w
+    no-work t p = asked-work f x y b w (passed f h q) (two true t) (fits false p)
+
+    pub answered : twoEvents E x y ≡ true → (p : workFits E w ≡ true) (w′ : List ℕ) (k : w′ ≡ filled E b w) (r : Relation)
+        → r ≡ relationBy E (safeIn s (h .counts) w′) (recordedIn s (h .counts) w′) x y → Asked f x y b w (Answer.Related r) w′
+    unfolding relationOf
+    answered t p w′ k r u =
+        related f x y b w (passed f h q) (two true t) (fits true p) r w′
+        (u ∙ ap₂ (λ (X R : Vectors). relationBy E X R x y) (safe p w′ k) (behind p w′ k) ∙ ap (λ (F : Recording). relationOf F b x y) same) (now-filled p w′ k)

@@ -1,0 +1,77 @@
+-- analyse_read meets its contract: each of its answers is one of the cases. Assumes nothing.
+use mathlib.Core.Path.{_≡_, sym, ap, _∙_}
+use Prim.Native.Nat.{_*_, _≤_}
+use native.Mathlib.Omega.{arith}
+use lib.ListN.{length}
+use borrow.Author.Needs.{needs}
+use borrow.Author.Tests.{not-true, not-false}
+use Rattle.analysis.proofs.Accepted.{ready}
+use Rattle.analysis.proofs.Cases.{roomy, short-work, short-list, all-well}
+use Rattle.analysis.proofs.analyse_read.Statement.{statement}
+use Rattle.analysis.proofs.analyse_read.Tie as tie
+
+work-fits-requires : tie.Need-work-fits-requires
+work-fits-requires c κs =
+    let s = c .before .before .before .before .before .before in
+    ready (s .args .file .now) (s .args .header) (s .pre) _ (c .before .before .records .ensures)
+
+returns : tie.Need-returns
+returns c =
+    let s = c .before .before .before .before .before .before .before .before in
+    short-work (s .args .file .now) (s .args .header) (s .pre) _ (c .before .before .before .before .records .ensures) _ _ _
+    (sym (c .before .work-fits .ensures) ∙ not-true _ (c .if1 .taken))
+
+fill-requires : tie.Need-fill-requires
+fill-requires c κs =
+    let s = c .before .before .before .before .before .before .before .before .before in
+    let e = c .before .before .before .before .before .records .ensures in (
+      ready (s .args .file .now) (s .args .header) (s .pre) _ e,
+      roomy (s .args .file .now) (s .args .header) (s .pre) _ e 0 (s .args .work .now) (sym (c .before .before .work-fits .ensures) ∙ not-false _ (c .before .if1 .left)),
+    )
+
+list-pairs-requires : tie.Need-list-pairs-requires
+list-pairs-requires c κs =
+    let k = c .before .before .before .before in
+    let t = k .before .before in
+    let r = t .before .before .before .before in
+    let s = r .before .before .before .before in
+    let room = roomy (s .args .file .now) (s .args .header) (s .pre) _ (r .records .ensures) 0 (s .args .work .now) (sym (t .before .work-fits .ensures) ∙ not-false _ (t .if1 .left)) in
+    (ready (s .args .file .now) (s .args .header) (s .pre) _ (r .records .ensures), omega (arith, room, k .fill .kept .1 .1 .1 .0))
+
+returns-2 : tie.Need-returns-2
+returns-2 c =
+    let k = c .before .before .before .before .before .before .before .before .before in
+    let t = k .before .before in
+    let r = t .before .before .before .before in
+    let s = r .before .before .before .before in
+    let l = c .before .before .before .before .list-pairs in
+    short-list (s .args .file .now) (s .args .header) (s .pre) _ (r .records .ensures) (s .args .budget) (s .args .work .now)
+    (sym (t .before .work-fits .ensures) ∙ not-false _ (t .if1 .left)) _ (k .fill .ensures .1) _ _ _ (l .result .fits) (not-true _ (c .if2 .taken)) (l .ensures)
+
+returns-3 : tie.Need-returns-3
+returns-3 c =
+    let k = c .before .before .before .before .before .before .before .before .before in
+    let t = k .before .before in
+    let r = t .before .before .before .before in
+    let s = r .before .before .before .before in
+    let l = c .before .before .before .before .list-pairs in
+    all-well (s .args .file .now) (s .args .header) (s .pre) _ (r .records .ensures) (s .args .budget) (s .args .work .now)
+    (sym (t .before .work-fits .ensures) ∙ not-false _ (t .if1 .left)) _ (k .fill .ensures .1) _ _ _ (l .result .fits) (not-false _ (c .if2 .left)) (l .ensures)
+    _ _ (k .fill .ensures .0 .0) (k .fill .ensures .0 .1)
+
+pub analyse-read-spec : {M : Type 1} → statement M
+analyse-read-spec =
+    tie.close
+    (tie.spec
+    (λ c κs. search needs)
+    work-fits-requires
+    (λ c. search needs)
+    returns
+    fill-requires
+    list-pairs-requires
+    (λ c. search needs)
+    (λ c. search needs)
+    returns-2
+    (λ c. search needs)
+    (λ c. search needs)
+    returns-3)

@@ -1,0 +1,60 @@
+-- fill meets its contract: the first part is the safe vectors, the rest the recorded ones and what was behind them. Assumes nothing.
+use mathlib.Core.Path.{_≡_, sym, _∙_}
+use Prim.Native.Nat.{_*_, _≤_}
+use native.Mathlib.Omega.{arith}
+use borrow.Author.Needs.{needs}
+use lib.ListN.{length}
+use Rattle.model.specs.File.{recordingBy}
+use Rattle.analysis.proofs.Parts.{first-part, rest-room, filled-by}
+use Rattle.analysis.proofs.fill.Statement.{statement}
+use Rattle.analysis.proofs.fill.Tie as tie
+
+slice-aggregate-run : tie.Need-slice-aggregate-run
+slice-aggregate-run c = sym (first-part _ _ (omega arith))
+
+run-requires : tie.Need-run-requires
+run-requires c κs =
+    let s = c .before .before .before .before in
+    (s .pre .0 .records, first-part _ _ (omega arith) ∙ c .before .numbers .ensures .0)
+
+-- as many numbers as were lent
+the-length : (c : tie.After-run) → length (c .run .last .1 .1 .1 .0) ≡ c .before .before .numbers .result
+the-length c = c .run .kept .1 .1 .1 .0 ∙ first-part _ _ (omega arith)
+
+-- room for twice as many
+the-room : (c : tie.After-numbers) → 2 * c .numbers .result ≤ length (c .before .before .before .args .work .now)
+the-room c = omega arith
+
+record-requires : tie.Need-record-requires
+record-requires c κs =
+    let s = c .before .before .before .before .before .before .before .before in
+    let k = c .before .before .before in
+    let r = rest-room (k .before .before .numbers .result) (s .args .work .now) (k .run .last .1 .1 .1 .0) (the-length k) (the-room (k .before .before)) in
+    (s .pre .0 .records, omega (arith, k .before .before .numbers .ensures .0))
+
+returns : tie.Need-returns
+returns c =
+    let s = c .before .before .before .before .before .before .before .before .before .before .before in
+    let k = c .before .before .before .before .before .before in
+    let e = k .before .before .numbers .ensures .0 in (
+      (k .run .ensures .0, k .run .ensures .1 .0),
+      filled-by (k .before .before .numbers .result) (s .args .work .now) (k .run .last .1 .1 .1 .0) (the-length k) (the-room (k .before .before))
+          (recordingBy (s .args .recs .now) (s .args .counts)) (s .args .budget) (c .before .before .«record» .last .1 .1 .0) e (k .run .ensures .1 .1)
+          (c .before .before .«record» .ensures ∙ rw (sym e)),
+    )
+
+pub fill-spec : {M : Type 1} → statement M
+fill-spec =
+    tie.close
+    (tie.spec
+    (λ c κs. search needs)
+    (λ c. omega arith)
+    slice-aggregate-run
+    run-requires
+    (λ c. omega arith)
+    (λ c. search needs)
+    (λ c. search needs)
+    (λ c. search needs)
+    record-requires
+    (λ c. search needs)
+    returns)

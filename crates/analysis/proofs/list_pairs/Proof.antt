@@ -1,0 +1,43 @@
+-- list_pairs meets its contract: the two parts that are lent are the vectors. Assumes nothing.
+use mathlib.Core.Path.{sym, _∙_}
+use native.Mathlib.Omega.{arith}
+use borrow.Author.Needs.{needs}
+use Rattle.model.specs.File.{recordingBy}
+use Rattle.model.specs.Vectors.{Vectors}
+use Rattle.model.specs.Pairs.{entries}
+use Rattle.pairs.specs.Lent.{Outcome}
+use Rattle.analysis.proofs.Parts.{first-part, second-part, as-vectors}
+use Rattle.analysis.proofs.list_pairs.Statement.{statement}
+use Rattle.analysis.proofs.list_pairs.Tie as tie
+
+slice-aggregate-list : tie.Need-slice-aggregate-list
+slice-aggregate-list c = sym (first-part _ _ (omega arith))
+
+list-requires : tie.Need-list-requires
+list-requires c κs =
+    let s = c .before .before .before .before .before .before .before in
+    let e = c .before .before .before .numbers .ensures .0 in
+    (s .pre .0 .records, s .pre .0 .cells, first-part _ _ (omega arith) ∙ e, second-part _ _ (omega arith) ∙ e)
+
+returns : tie.Need-returns
+returns c =
+    let s = c .before .before .before .before .before .before .before .before .before .before in
+    let l = c .before .before .list in
+    as-vectors (s .args .recs .now) (s .args .counts) (s .args .work .now) _ (c .before .before .before .before .before .before .numbers .ensures .0)
+    (λ (X R : Vectors). Outcome (entries (recordingBy (s .args .recs .now) (s .args .counts)) X R) (s .args .list .now) (l .last .1 .1 .1 .1 .0) (l .result .fits) (l .result .pairs))
+    (l .ensures)
+
+pub list-pairs-spec : {M : Type 1} → statement M
+list-pairs-spec =
+    tie.close
+    (tie.spec
+    (λ c κs. search needs)
+    (λ c. omega arith)
+    slice-aggregate-list
+    (λ c. omega arith)
+    (λ c. omega arith)
+    (λ c. search needs)
+    (λ c. search needs)
+    list-requires
+    (λ c. search needs)
+    returns)

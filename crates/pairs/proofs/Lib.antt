@@ -1,0 +1,4 @@
+pub mod Each
+pub mod Stores
+pub mod Order
+pub mod Race

@@ -1,0 +1,39 @@
+-- race_pair meets its contract. Assumes nothing.
+use mathlib.Core.Path.{_≡_, sym, ap₂, _∙_}
+use mathlib.Core.Bool.{Bool}
+use native.Mathlib.Omega.{arith}
+use borrow.Author.Needs.{needs}
+use borrow.Author.Tests.{not-true, not-false}
+use Rattle.model.specs.Recording.{event}
+use Rattle.model.specs.File.{recordingBy}
+use Rattle.model.specs.Pairs.{conflict}
+use Rattle.pairs.proofs.Race.{race-none, race-by}
+use Rattle.pairs.proofs.race_pair.Statement.{statement}
+use Rattle.pairs.proofs.race_pair.Tie as tie
+
+-- what conflict answered, of the two events
+the-conflict : (c : tie.After-conflict) → c .conflict .result
+    ≡ conflict (event (recordingBy (c .before .before .before .before .before .before .args .recs .now) (c .before .before .before .before .before .before .args .counts)) (c .before .before .before .before .before .before .args .a))
+    (event (recordingBy (c .before .before .before .before .before .before .args .recs .now) (c .before .before .before .before .before .before .args .counts)) (c .before .before .before .before .before .before .args .b))
+the-conflict c = c .conflict .ensures ∙ ap₂ conflict (c .before .before .event-at .ensures) (c .before .event-at2 .ensures)
+
+returns : tie.Need-returns
+returns c =
+    let s = c .before .before .before .before .before .before .before in
+    race-none _ _ _ _ (s .pre .1 .0) (sym (the-conflict (c .before)) ∙ not-true _ (c .if1 .taken))
+
+returns-2 : tie.Need-returns-2
+returns-2 c =
+    let s = c .before .before .before .before .before .before .before .before in
+    race-by _ _ _ _ _ (s .pre .1 .0) (sym (the-conflict (c .before .before)) ∙ not-false _ (c .before .if1 .left)) (c .unordered .ensures)
+
+pub race-pair-spec : {M : Type 1} → statement M
+race-pair-spec =
+    tie.close
+    (tie.spec
+    (λ c κs. omega arith)
+    (λ c κs. omega arith)
+    (λ c κs. search needs)
+    returns
+    (λ c κs. search needs)
+    returns-2)

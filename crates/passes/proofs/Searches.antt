@@ -1,0 +1,92 @@
+-- What the searches over the records find: below which number it lies, and the signal that matches a wait.
+-- Assumes nothing.
+use Prim.Native.Nat.{ℕ, zero, suc, _+_, _*_, _≤_, _<_}
+use mathlib.Core.Path.{_≡_, refl, sym, ap, ap₂, subst, _∙_}
+use mathlib.Core.Bool.{Bool, true, false}
+use mathlib.Core.List.{List, []}
+use native.Mathlib.Nat.{le-refl}
+use native.Mathlib.Omega.{arith}
+use lib.Dec.{eqb}
+use lib.ListN.{length, getD, take}
+use Rattle.model.specs.declared.Event.{Event}
+use Rattle.model.specs.declared.Found.{Found}
+use Rattle.model.specs.Numbers.{bit, sum, tally, count, picked, lastOf, nth}
+use Rattle.model.specs.Recording.{Recording, size, event, noEvent, taskOf, kindOf, objectOf, ofTask, isOn, isWait, isSignal}
+use Rattle.model.specs.Passes.{previous, signalsOn}
+use Rattle.model.specs.Recorded.{waitsBefore, matched}
+use Rattle.model.proofs.Tests.{eq-eqb, ne-eqb}
+use Rattle.model.proofs.Sum.{rank-rises, rank-same}
+use Rattle.model.proofs.Picked.{nth-of, nth-found}
+use Rattle.model.proofs.Sources.{last-some}
+use Rattle.events.proofs.Laws.{count-suc}
+use Rattle.passes.specs.Lent.{Below, firstFound}
+
+pub last-below : (p : ℕ → Bool) (n : ℕ) → Below n (lastOf p n)
+last-below p n = go (lastOf p n) refl
+  where
+    go : (m : Found) → lastOf p n ≡ m → Below n m
+    go (Found.At x) q = last-some p n x q .inside
+    go Found.Nothing q = tt
+
+pub below-more : (m n : ℕ) (f : Found) → m ≤ n → Below m f → Below n f
+below-more m n (Found.At x) h b = omega arith
+below-more m n Found.Nothing h b = tt
+
+-- a search by what is known of an event, and where it looked
+pub searched : (P : Event → ℕ → Bool) (v w : Event) (n m : ℕ) (r : Found) → r ≡ lastOf (P v) n → v ≡ w → n ≡ m → r ≡ lastOf (P w) m
+searched P v w n m r q p h = q ∙ ap₂ (λ (u : Event) (k : ℕ). lastOf (P u) k) p h
+
+pub found-below : (p : ℕ → Bool) (n m : ℕ) (r : Found) → r ≡ lastOf p n → n ≡ m → Below m r
+found-below p n m r q h = subst (Below m) (sym (q ∙ ap (lastOf p) h)) (last-below p m)
+
+-- the event before is found, or it is not
+pub before-at : (E : Recording) (e a : ℕ) (f g : Found) → f ≡ previous E e → f ≡ Found.At a → (Found.At a ≡ firstFound (previous E e) g) × (a < e)
+before-at E e a f g p q =
+    let r : previous E e ≡ Found.At a = sym p ∙ q in
+    (sym (ap (λ (m : Found). firstFound m g) r), last-some (λ b. ofTask (taskOf E e) (event E b)) e a r .inside)
+
+pub before-none : (E : Recording) (e : ℕ) (f g : Found) → f ≡ previous E e → f ≡ Found.Nothing → g ≡ firstFound (previous E e) g
+before-none E e f g p q = sym (ap (λ (m : Found). firstFound m g) (sym p ∙ q))
+
+pub nth-below : (p : ℕ → Bool) (n k : ℕ) → Below n (nth (picked p n) k)
+nth-below p n k = go (nth (picked p n) k) refl
+  where
+    go : (m : Found) → nth (picked p n) k ≡ m → Below n m
+    go (Found.At x) q = nth-of p n k x q .0
+    go Found.Nothing q = tt
+
+-- the number of rank k
+pub nth-here : (p : ℕ → Bool) (n k a : ℕ) → a < n → p a ≡ true → tally p a ≡ k → Found.At a ≡ nth (picked p n) k
+nth-here p n k a l t r =
+    let (x, q) = nth-found p n k (let h = rank-rises p a n l t in omega arith) in
+    let (m, s, z) = nth-of p n k x q in
+    ap (λ (y : ℕ). Found.At y) (rank-same p a x t s (r ∙ sym z)) ∙ sym q
+
+-- there is none
+pub nth-none : (p : ℕ → Bool) (n k : ℕ) → tally p n ≤ k → Found.Nothing ≡ nth (picked p n) k
+nth-none p n k h = go (nth (picked p n) k) refl
+  where
+    go : (m : Found) → nth (picked p n) k ≡ m → Found.Nothing ≡ m
+    go (Found.At x) q = let (l, s, z) = nth-of p n k x q in absurd (let r = rank-rises p x n l s in omega arith)
+    go Found.Nothing q = refl
+
+pub tally-start : (p : ℕ → Bool) → tally p 0 ≡ 0
+unfolding sum
+tally-start p = refl
+
+-- a count over the first events is a tally of their numbers
+pub count-tally : {A : Type 0} (p : A → Bool) (l : List A) (d : A) (n : ℕ) → n ≤ length l → count p (take n l) ≡ tally (λ a. p (getD l a d)) n
+unfolding sum count
+count-tally p l d zero h = refl
+count-tally p l d (suc n) h = count-suc p l d n h ∙ ap (λ (k : ℕ). k + bit (p (getD l n d))) (count-tally p l d n (omega arith))
+
+module _ (E : Recording) (e : ℕ) where
+  pub matched-wait : (k : ℕ) → kindOf E e ≡ 2 → e ≤ size E → k ≡ count (isOn 2 (objectOf E e)) (take e (E .events)) → nth (signalsOn E (objectOf E e)) k ≡ matched E e
+  unfolding matched
+  matched-wait k q h r =
+      let z : k ≡ waitsBefore E e = r ∙ count-tally (isOn 2 (objectOf E e)) (E .events) noEvent e h in
+      rw (eq-eqb (kindOf E e) 2 q) (ap (nth (signalsOn E (objectOf E e))) z)
+
+  pub matched-other : (kindOf E e ≡ 2 → ⊥) → Found.Nothing ≡ matched E e
+  unfolding matched
+  matched-other d = rw (ne-eqb (kindOf E e) 2 d)

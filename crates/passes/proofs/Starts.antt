@@ -1,0 +1,81 @@
+-- The starting vectors, row by row: those still to write, over what is there, give the whole.
+-- Assumes nothing.
+use Prim.Native.Nat.{ℕ, zero, suc, _+_, _-_, _*_, _≤_, _<_}
+use mathlib.Core.Path.{_≡_, refl, sym, ap, _∙_}
+use mathlib.Core.Bool.{cond}
+use mathlib.Core.List.{List, [], _∷_, _++_, append-nil}
+use native.Mathlib.Numerals.{add-one}
+use native.Mathlib.Omega.{arith}
+use lib.Dec.{eqb}
+use lib.ListN.{length, getD, drop, length-append, drop-of-length-le, List·getD-append}
+use lib.Seq.{sets}
+use Rattle.model.specs.declared.Counts.{Counts}
+use Rattle.model.specs.Numbers.{listFrom, listOf}
+use Rattle.model.specs.Recording.{Recording, size, tasks, taskOf}
+use Rattle.model.specs.Vectors.{position, flat, start}
+use Rattle.model.specs.File.{recordingBy}
+use Rattle.model.proofs.Lists.{listOf-at, listOf-length}
+use Rattle.model.proofs.Climb.{start-shaped}
+use Rattle.vectors.specs.Rows.{ownRow}
+use Rattle.vectors.proofs.Chunks.{own-length, flat-length}
+use Rattle.vectors.proofs.Stores.{sets-append, sets-front}
+use Rattle.passes.specs.Lent.{Records, Placed}
+use Rattle.passes.specs.Steps.{firstRow}
+
+-- the rows of event e and of all that follow
+pub rowsFrom : Recording → ℕ → List ℕ
+rowsFrom E e = flat (listFrom (firstRow E) e (size E - e))
+
+pub rows-start : (E : Recording) → rowsFrom E 0 ≡ flat (start E)
+unfolding rowsFrom start ownRow
+rows-start E =
+    let k : size E - 0 ≡ size E = omega arith in
+    rw k
+
+rows-next : (E : Recording) (e : ℕ) → e < size E → rowsFrom E e ≡ firstRow E e ++ rowsFrom E (e + 1)
+unfolding rowsFrom listFrom flat
+rows-next E e h =
+    let k : size E - e ≡ suc (size E - suc e) = omega arith in
+    rw (add-one e, k)
+
+pub rows-end : (E : Recording) (e : ℕ) → size E ≤ e → rowsFrom E e ≡ []
+unfolding rowsFrom listFrom flat
+rows-end E e h =
+    let k : size E - e ≡ 0 = omega arith in
+    rw k
+
+pub start-length : (E : Recording) → length (flat (start E)) ≡ size E * tasks E
+start-length E = flat-length (size E) (tasks E) (start E) (start-shaped E)
+
+pub row-fits : (E : Recording) (e : ℕ) → e < size E → tasks E ≤ length (rowsFrom E e)
+row-fits E e h = rw (rows-next E e h) (omega (arith, length-append (firstRow E e) (rowsFrom E (e + 1)), own-length (tasks E) (taskOf E e) (position E e)))
+
+-- one row is stored, and the later ones over it are the whole from e on
+pub row-stored : (E : Recording) (e : ℕ) → e < size E → (v v′ : List ℕ) (at : ℕ) → v′ ≡ sets v at (firstRow E e)
+    → (sets v′ (at + tasks E) (rowsFrom E (e + 1)) ≡ sets v at (rowsFrom E e)) × (at + tasks E + length (rowsFrom E (e + 1)) ≡ at + length (rowsFrom E e))
+row-stored E e h v v′ at q =
+    let k : length (firstRow E e) ≡ tasks E = own-length (tasks E) (taskOf E e) (position E e) in (
+      rw (rows-next E e h, q) (rw k at (sym (sets-append (firstRow E e) (rowsFrom E (e + 1)) v at))),
+      rw (rows-next E e h) (omega (arith, length-append (firstRow E e) (rowsFrom E (e + 1)))),
+    )
+
+-- all are stored
+pub start-stored : (E : Recording) (v : List ℕ) → length v ≡ size E * tasks E → sets v 0 (flat (start E)) ≡ flat (start E)
+start-stored E v h =
+    sets-front v (flat (start E)) (size E * tasks E) (start-length E) (omega arith)
+    ∙ ap (λ (l : List ℕ). flat (start E) ++ l) (drop-of-length-le v {i = size E * tasks E} (omega arith))
+    ∙ append-nil (flat (start E))
+
+-- the positions, once they are written over the front of `old`
+pub all-placed : (s : List ℕ) (c : Counts) (at old : List ℕ) (n : ℕ) → Records s c → n ≡ size (recordingBy s c) → n ≤ length at
+    → at ≡ listOf (position (recordingBy s c)) n ++ drop n old → Placed s c at
+all-placed s c at old n r q h p =
+    record {
+      records = r;
+      room = omega arith;
+      placed = λ e k.
+          let l = listOf-length (position (recordingBy s c)) 0 n in
+          ap (λ (u : List ℕ). getD u e 0) p
+          ∙ List·getD-append (listOf (position (recordingBy s c)) n) (drop n old) 0 e (omega arith)
+          ∙ listOf-at (position (recordingBy s c)) 0 n e (omega arith);
+    }

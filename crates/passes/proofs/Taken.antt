@@ -1,0 +1,160 @@
+-- Step 1: what is found is taken one event after another, and in the end the largest of all, number by number, is there.
+-- Assumes nothing.
+use Prim.Native.Nat.{ℕ, zero, suc, _+_, _*_, _≤_, _<_, zero-le, max}
+use mathlib.Core.Path.{_≡_, refl, sym, ap, ap₂, _∙_}
+use mathlib.Core.Bool.{Bool, true, false}
+use mathlib.Core.List.{List, [], _∷_, _++_}
+use native.Mathlib.Omega.{arith}
+use lib.Dec.{eqb}
+use lib.ListN.{length, getD, set}
+use Rattle.model.specs.declared.Counts.{Counts}
+use Rattle.model.specs.declared.Found.{Found}
+use Rattle.model.specs.Numbers.{found, largest}
+use Rattle.model.specs.Recording.{Recording, size, tasks, taskOf, kindOf, objectOf}
+use Rattle.model.specs.Vectors.{Vectors, number}
+use Rattle.model.specs.Passes.{previous, forkOf, lastEvent, orFork, joinSources, sources, gathered, stepOne}
+use Rattle.model.specs.Recorded.{matched, causes}
+use Rattle.model.proofs.Tests.{cases, eqb-true, eqb-false, eq-eqb, ne-eqb}
+use Rattle.model.proofs.Climb.{Shaped}
+use Rattle.vectors.specs.Rows.{chunks, raisedTo}
+use Rattle.vectors.proofs.Chunks.{next-row, same-numbers, chunks-shaped, number-chunks}
+use Rattle.vectors.proofs.Raised.{raisedTo-same, raisedTo-other, raisedTo-shaped, raisedTo-alike, raisedTo-none, chunks-raised}
+use Rattle.passes.specs.Lent.{firstFound, Below, Inside, raisedFound}
+use Rattle.passes.specs.Steps.{taken, recordedEvent}
+
+-- numbers that differ only where they are not above y
+largest-under : (f g : ℕ → ℕ) (y : ℕ) (l : List ℕ) → ((s : ℕ) → max y (f s) ≡ max y (g s)) → max y (largest f l) ≡ max y (largest g l)
+unfolding largest
+largest-under f g y [] h = refl
+largest-under f g y (x ∷ l) h =
+    apart y (f x) (largest f l) ∙ ap₂ (λ (a b : ℕ). max a b) (h x) (largest-under f g y l h) ∙ sym (apart y (g x) (largest g l))
+  where
+    apart : (y a b : ℕ) → max y (max a b) ≡ max (max y a) (max y b)
+    apart y a b = omega arith
+
+largest-append : (f : ℕ → ℕ) (l k : List ℕ) → largest f (l ++ k) ≡ max (largest f l) (largest f k)
+unfolding largest
+largest-append f [] k = omega arith
+largest-append f (x ∷ l) k = omega (arith, largest-append f l k)
+
+module _ (c : Counts) {n : ℕ} (X : Vectors) (e : ℕ) (s : Shaped n (c .tasks) X) (h : e < n) where
+  pub taken-shaped : (from : List ℕ) → Shaped n (c .tasks) (taken c X from e)
+  unfolding taken
+  taken-shaped from = raisedTo-shaped e _ s h
+
+  pub taken-none : taken c X [] e ≡ X
+  unfolding taken largest
+  taken-none = raisedTo-none e _ s h (λ t k. zero-le)
+
+  taken-same : (from : List ℕ) (t : ℕ) → t < c .tasks → number (taken c X from e) e t ≡ max (number X e t) (largest (λ a. number X a t) from)
+  unfolding taken
+  taken-same from t k = let x = s .rows in raisedTo-same (c .tasks) X e (λ t. largest (λ a. number X a t) from) t (omega arith) k
+
+  taken-other : (from : List ℕ) (a t : ℕ) → (a ≡ e → ⊥) → number (taken c X from e) a t ≡ number X a t
+  unfolding taken
+  taken-other from a t d = raisedTo-other (c .tasks) X e (λ t. largest (λ a. number X a t) from) a t d
+
+-- to take some and then others is to take them all
+pub taken-then : (c : Counts) {n : ℕ} (X : Vectors) (e : ℕ) → Shaped n (c .tasks) X → e < n → (from more : List ℕ)
+    → taken c (taken c X from e) more e ≡ taken c X (from ++ more) e
+taken-then c {n} X e s h from more =
+    let Y = taken c X from e in
+    let r = taken-shaped c X e s h from in
+    same-numbers (taken-shaped c Y e r h more) (taken-shaped c X e s h (from ++ more)) λ a t j k.
+    cases (eqb a e)
+    (λ b. rw (eqb-true a e b) (own t k))
+    (λ b.
+    let d = eqb-false a e b in
+    taken-other c Y e r h more a t d ∙ taken-other c X e s h from a t d ∙ sym (taken-other c X e s h (from ++ more) a t d))
+  where
+    join : (x y z : ℕ) → max (max x y) z ≡ max x (max y z)
+    join x y z = omega arith
+
+    own : (t : ℕ) → t < c .tasks → number (taken c (taken c X from e) more e) e t ≡ number (taken c X (from ++ more) e) e t
+    own t k =
+        let Y = taken c X from e in
+        let r = taken-shaped c X e s h from in
+        let u = taken-same c X e s h from t k in
+        let same : (a : ℕ) → max (number (taken c X from e) e t) (number (taken c X from e) a t) ≡ max (number (taken c X from e) e t) (number X a t) =
+        λ a. cases (eqb a e)
+        (λ b. rw (eqb-true a e b) (omega arith))
+        (λ b. ap (max (number (taken c X from e) e t)) (taken-other c X e s h from a t (eqb-false a e b))) in
+        let w = largest-under (λ a. number (taken c X from e) a t) (λ a. number X a t) (number (taken c X from e) e t) more same in
+        let z = largest-append (λ a. number X a t) from more in
+        taken-same c Y e r h more t k
+        ∙ w
+        ∙ ap (λ (y : ℕ). max y (largest (λ a. number X a t) more)) u
+        ∙ join (number X e t) (largest (λ a. number X a t) from) (largest (λ a. number X a t) more)
+        ∙ ap (max (number X e t)) (sym z)
+        ∙ sym (taken-same c X e s h (from ++ more) t k)
+
+-- one found event taken in the flat list
+pub taken-found : (c : Counts) (n : ℕ) (l : List ℕ) (e : ℕ) (f : Found) → length l ≡ n * c .tasks → e < n
+    → chunks n (c .tasks) (raisedFound (c .tasks) l e f) ≡ taken c (chunks n (c .tasks) l) (found f) e
+unfolding taken largest
+taken-found c n l e Found.Nothing q h = sym (raisedTo-none e _ (chunks-shaped n (c .tasks) l q) h (λ t k. zero-le))
+taken-found c n l e (Found.At a) q h =
+    let m = c .tasks in
+    chunks-raised n m l e (λ t. getD l (a * m + t) 0) q h
+    ∙ raisedTo-alike e _ _ (chunks-shaped n m l q) h
+    (λ t k. let y = number-chunks n m l a t q k in omega arith)
+
+-- and after others
+pub found-then : (c : Counts) (n : ℕ) (l k : List ℕ) (e : ℕ) (from : List ℕ) (f : Found) → length l ≡ n * c .tasks → length k ≡ n * c .tasks → e < n
+    → chunks n (c .tasks) k ≡ taken c (chunks n (c .tasks) l) from e
+    → chunks n (c .tasks) (raisedFound (c .tasks) k e f) ≡ taken c (chunks n (c .tasks) l) (from ++ found f) e
+found-then c n l k e from f p q h r =
+    taken-found c n k e f q h
+    ∙ ap (λ (Y : Vectors). taken c Y (found f) e) r
+    ∙ taken-then c (chunks n (c .tasks) l) e (chunks-shaped n (c .tasks) l p) h from (found f)
+
+-- the vector of a found event lies in the list
+pub inside : (m n len : ℕ) (f : Found) → len ≡ n * m → Below n f → Inside m len f
+inside m n len Found.Nothing q b = tt
+inside m n len (Found.At a) q b = omega (arith, next-row a n m b)
+
+-- ---- as the definitions have it
+
+pub gathered-taken : (E : Recording) (X : Vectors) (from : List ℕ) (e : ℕ) → set X e (gathered E X from e) ≡ taken (E .counts) X from e
+unfolding gathered taken raisedTo largest
+gathered-taken E X from e = refl
+
+first-found : (f g : Found) → found (firstFound f g) ≡ orFork f g
+first-found (Found.At a) g = refl
+first-found Found.Nothing g = refl
+
+-- step 1: the event before or the fork, then what a join adds
+pub step-one : (E : Recording) (X Y Z : Vectors) (e : ℕ) (f : Found) → Shaped (size E) (tasks E) X → e < size E
+    → f ≡ firstFound (previous E e) (forkOf E (taskOf E e)) → Y ≡ taken (E .counts) X (found f) e
+    → Z ≡ taken (E .counts) Y (joinSources E e (eqb (kindOf E e) 4)) e → Z ≡ stepOne E X e
+unfolding stepOne sources
+step-one E X Y Z e f s h p q r =
+    r
+    ∙ ap (λ (W : Vectors). taken (E .counts) W (joinSources E e (eqb (kindOf E e) 4)) e)
+    (q ∙ ap (λ (l : List ℕ). taken (E .counts) X l e) (ap found p ∙ first-found (previous E e) (forkOf E (taskOf E e))))
+    ∙ taken-then (E .counts) X e s h (orFork (previous E e) (forkOf E (taskOf E e))) (joinSources E e (eqb (kindOf E e) 4))
+    ∙ sym (gathered-taken E X (orFork (previous E e) (forkOf E (taskOf E e)) ++ joinSources E e (eqb (kindOf E e) 4)) e)
+
+-- what a join adds: the fork of its task, then the last event of it
+pub join-other : (E : Recording) (X : Vectors) (e : ℕ) → Shaped (size E) (tasks E) X → e < size E → (kindOf E e ≡ 4 → ⊥)
+    → X ≡ taken (E .counts) X (joinSources E e (eqb (kindOf E e) 4)) e
+join-other E X e s h d = rw (ne-eqb (kindOf E e) 4 d) (sym (taken-none (E .counts) X e s h))
+
+pub join-taken : (E : Recording) (l k j : List ℕ) (e : ℕ) (f g : Found) → length l ≡ size E * tasks E → length k ≡ size E * tasks E → e < size E
+    → kindOf E e ≡ 4 → f ≡ forkOf E (objectOf E e) → g ≡ lastEvent E (objectOf E e)
+    → k ≡ raisedFound (tasks E) l e f → j ≡ raisedFound (tasks E) k e g
+    → chunks (size E) (tasks E) j ≡ taken (E .counts) (chunks (size E) (tasks E) l) (joinSources E e (eqb (kindOf E e) 4)) e
+join-taken E l k j e f g p q h d t u r z =
+    let x : chunks (size E) (tasks E) k ≡ taken (E .counts) (chunks (size E) (tasks E) l) (found f) e =
+    ap (chunks (size E) (tasks E)) r ∙ taken-found (E .counts) (size E) l e f p h in
+    rw (eq-eqb (kindOf E e) 4 d, ← t, ← u) (ap (chunks (size E) (tasks E)) z ∙ found-then (E .counts) (size E) l k e (found f) g p q h x)
+
+-- the recorded vector: step 1, then the matched signal
+pub record-event : (E : Recording) (X Y Z : Vectors) (e : ℕ) → Shaped (size E) (tasks E) X → e < size E
+    → Y ≡ stepOne E X e → Z ≡ taken (E .counts) Y (found (matched E e)) e → Z ≡ recordedEvent E X e
+unfolding stepOne recordedEvent
+record-event E X Y Z e s h q r =
+    r
+    ∙ ap (λ (W : Vectors). taken (E .counts) W (found (matched E e)) e) (q ∙ gathered-taken E X (sources E e) e)
+    ∙ taken-then (E .counts) X e s h (sources E e) (found (matched E e))
+    ∙ sym (gathered-taken E X (causes E e) e)

@@ -1,0 +1,33 @@
+-- What lent vectors order, and where a number lies among them.
+-- Assumes nothing.
+use Prim.Native.Nat.{ℕ, _+_, _*_, _<_}
+use mathlib.Core.Path.{_≡_, refl, sym, ap, _∙_}
+use mathlib.Core.Bool.{Bool, true, false, not, _&&_}
+use mathlib.Core.List.{List}
+use native.Mathlib.Omega.{arith}
+use lib.Dec.{leb}
+use lib.ListN.{length}
+use Rattle.model.specs.Recording.{Recording, taskOf}
+use Rattle.model.specs.Vectors.{Vectors, number, position, ordered}
+use Rattle.model.proofs.Tests.{eq-eqb, ne-eqb}
+use Rattle.vectors.proofs.Chunks.{next-row}
+
+-- number t of row e of n rows of m numbers
+pub in-rows : (v : List ℕ) (n m e t : ℕ) → length v ≡ n * m → e < n → t < m → e * m + t < length v
+in-rows v n m e t h p q = omega (arith, next-row e n m p)
+
+module _ (E : Recording) (X : Vectors) (a b : ℕ) where
+  pub ordered-self : a ≡ b → false ≡ ordered E X a b
+  unfolding ordered
+  ordered-self h = rw (eq-eqb a b h)
+
+  pub ordered-by : (x y : ℕ) → (a ≡ b → ⊥) → x ≡ position E a → y ≡ number X b (taskOf E a) → leb x y ≡ ordered E X a b
+  unfolding ordered
+  ordered-by x y h p q = rw (p, q, ne-eqb a b h)
+
+-- a test that comes first, and one behind it
+pub and-passed : (r p q x : Bool) → r ≡ p → r ≡ true → x ≡ q → x ≡ (p && q)
+and-passed r p q x e t f = rw (sym e ∙ t, f)
+
+pub and-failed : (r p q : Bool) → r ≡ p → r ≡ false → false ≡ (p && q)
+and-failed r p q e t = rw (sym e ∙ t)

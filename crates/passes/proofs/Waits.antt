@@ -1,0 +1,131 @@
+-- Step 2: the candidates and k as one look at the records gives them, and a wait raised by them.
+-- Assumes nothing.
+use Prim.Native.Nat.{ℕ, zero, suc, _+_, _*_, _≤_, _<_, zero-le, max}
+use mathlib.Core.Path.{_≡_, refl, sym, ap, ap₂, _∙_}
+use mathlib.Core.Bool.{Bool, true, false, cond, not, _&&_}
+use mathlib.Core.List.{List, [], _∷_, _++_, map, append-nil, append-assoc}
+use native.Mathlib.Nat.{not-suc-le-zero, add-zero}
+use native.Mathlib.Numerals.{add-one}
+use native.Mathlib.Omega.{arith}
+use lib.Dec.{eqb}
+use lib.ListN.{length, getD, set, drop, length-append, List·getD-append}
+use lib.Seq.{set-at, set-set, drop-cons, getD-append-add}
+use Rattle.model.specs.Numbers.{bit, sum, tally, count, filter, each, picked, kthLeast}
+use Rattle.model.specs.Recording.{Recording, size, tasks, event, kindOf, objectOf, isSignal, isWait}
+use Rattle.model.specs.Vectors.{Vectors, number, ordered}
+use Rattle.model.specs.Passes.{signalsOn, waitsOn, kOf, needed, candidates, served, gathered, sources, stepOne, raised}
+use Rattle.model.proofs.Tests.{cases, bit-true, bit-false, bit-le, eq-eqb, ne-eqb}
+use Rattle.model.proofs.Least.{kth-zero}
+use Rattle.model.proofs.Picked.{count-picked}
+use Rattle.model.proofs.Climb.{Shaped}
+use Rattle.vectors.specs.Rows.{chunks, column, raisedAt, raisedTo}
+use Rattle.vectors.proofs.Chunks.{chunks-shaped, column-chunks, map-same}
+use Rattle.vectors.proofs.Raised.{raisedTo-alike, raisedTo-none, chunks-raised}
+use Rattle.passes.specs.Steps.{waitBefore, candidate, candidatesOn, waited, stepTwo, raisedEvent}
+
+-- ---- numbers picked one after another
+
+last-below : (l : List ℕ) (n i : ℕ) → ((j : ℕ) → j < length l → getD l j 0 < n) → i < length (l ++ n ∷ []) → getD (l ++ n ∷ []) i 0 < suc n
+last-below [] n zero h k = omega arith
+last-below [] n (suc i) h k = absurd (omega arith)
+last-below (x ∷ l) n zero h k = omega (arith, h 0 (omega arith))
+last-below (x ∷ l) n (suc i) h k = last-below l n i (λ j g. h (suc j) (omega arith)) (omega arith)
+
+module _ (p : ℕ → Bool) where
+  pub picked-start : picked p 0 ≡ []
+  unfolding picked each
+  picked-start = refl
+
+  pub picked-hit : (n : ℕ) → p n ≡ true → picked p (n + 1) ≡ picked p n ++ n ∷ []
+  unfolding picked each
+  picked-hit n t = rw (add-one n, each, t)
+
+  pub picked-miss : (n : ℕ) → p n ≡ false → picked p (n + 1) ≡ picked p n
+  unfolding picked each
+  picked-miss n t = rw (add-one n, each, t) (append-nil (each (λ e. cond (p e) (e ∷ []) []) n))
+
+  pub picked-few : (n : ℕ) → length (picked p n) ≤ n
+  picked-few zero = rw picked-start zero-le
+  picked-few (suc n) =
+      let ih = picked-few n in
+      cases (p n)
+      (λ t. rw (← add-one n, picked-hit n t) (omega (arith, length-append (picked p n) (n ∷ []))))
+      (λ t. rw (← add-one n, picked-miss n t) (omega arith))
+
+  pub picked-below : (n i : ℕ) → i < length (picked p n) → getD (picked p n) i 0 < n
+  picked-below zero i h = absurd (not-suc-le-zero (rw picked-start at h))
+  picked-below (suc n) i h =
+      cases (p n)
+      (λ t. let q = ap (picked p) (sym (add-one n)) ∙ picked-hit n t in rw q (last-below (picked p n) n i (picked-below n) (rw q at h)))
+      (λ t. let q = ap (picked p) (sym (add-one n)) ∙ picked-miss n t in rw q (omega (arith, picked-below n i (rw q at h))))
+
+-- a number that passes is stored behind those picked before
+pub pick-one : (l out : List ℕ) (c a : ℕ) → c ≡ length l → c < length out → (set (l ++ drop c out) c a ≡ (l ++ a ∷ []) ++ drop (c + 1) out)
+pick-one l out c a q h = rw (drop-cons out c 0 h, add-one c) (set-at l (getD out c 0) (drop (suc c) out) a c (sym q) ∙ sym (append-assoc l (a ∷ []) (drop (suc c) out)))
+
+-- ---- as the definitions have it
+
+filter-append : (q : ℕ → Bool) (l k : List ℕ) → filter q (l ++ k) ≡ filter q l ++ filter q k
+unfolding filter
+filter-append q [] k = refl
+filter-append q (x ∷ l) k = cases (q x) (λ t. rw (t, filter-append q l k)) (λ t. rw (t, filter-append q l k))
+
+filter-picked : (p q : ℕ → Bool) (n : ℕ) → filter q (picked p n) ≡ picked (λ a. p a && q a) n
+unfolding picked each filter
+filter-picked p q zero = refl
+filter-picked p q (suc n) =
+    filter-append q (picked p n) (cond (p n) (n ∷ []) []) ∙ ap₂ _++_ (filter-picked p q n) (last (p n))
+  where
+    last : (b : Bool) → filter q (cond b (n ∷ []) []) ≡ cond (b && q n) (n ∷ []) []
+    last true = refl
+    last false = refl
+
+module _ (E : Recording) (X : Vectors) (e : ℕ) where
+  pub candidates-on : candidatesOn E X e (objectOf E e) ≡ candidates E X e
+  unfolding candidatesOn candidates signalsOn
+  candidates-on = sym (filter-picked (λ a. isSignal (objectOf E e) (event E a)) (λ s. not (ordered E X e s)) (size E))
+
+  pub candidates-all : (s a : ℕ) → a ≡ size E → picked (candidate E X e s) a ≡ candidatesOn E X e s
+  unfolding candidatesOn
+  candidates-all s a q = ap (picked (candidate E X e s)) q
+
+  pub candidates-few : (s : ℕ) → length (candidatesOn E X e s) ≤ size E
+  unfolding candidatesOn
+  candidates-few s = picked-few (candidate E X e s) (size E)
+
+  pub candidates-below : (s i : ℕ) → i < length (candidatesOn E X e s) → getD (candidatesOn E X e s) i 0 < size E
+  unfolding candidatesOn
+  candidates-below s i h = picked-below (candidate E X e s) (size E) i h
+
+  pub k-tally : (s : ℕ) → kOf E X e s ≡ suc (tally (waitBefore E X e s) (size E))
+  unfolding waitsOn
+  k-tally s = ap suc (count-picked (λ a. isWait s (event E a)) (λ w. ordered E X w e) (size E))
+
+  -- a wait, and any other event
+  pub wait-raised : kindOf E e ≡ 2 → waited E X e (objectOf E e) ≡ stepTwo E X e
+  unfolding waited stepTwo raisedTo served needed
+  wait-raised q = rw (candidates-on, eq-eqb (kindOf E e) 2 q)
+
+  pub other-kept : Shaped (size E) (tasks E) X → e < size E → (kindOf E e ≡ 2 → ⊥) → X ≡ stepTwo E X e
+  unfolding stepTwo served needed
+  other-kept s h d =
+      sym (raisedTo-none e _ s h λ t k.
+      let z = kth-zero (map (λ s. number X s t) (candidates E X e)) in
+      let q = ne-eqb (kindOf E e) 2 d in
+      rw (q, z) zero-le)
+
+-- the candidates' numbers in the flat list
+pub chunks-waited : (E : Recording) (l : List ℕ) (e s k : ℕ) (cs : List ℕ) → length l ≡ size E * tasks E → e < size E
+    → k ≡ kOf E (chunks (size E) (tasks E) l) e s → cs ≡ candidatesOn E (chunks (size E) (tasks E) l) e s
+    → chunks (size E) (tasks E) (raisedAt l (e * tasks E) (λ t. kthLeast k (column (tasks E) l t cs)) (tasks E)) ≡ waited E (chunks (size E) (tasks E) l) e s
+unfolding waited
+chunks-waited E l e s k cs h p q r =
+    let X = chunks (size E) (tasks E) l in
+    chunks-raised (size E) (tasks E) l e (λ t. kthLeast k (column (tasks E) l t cs)) h p
+    ∙ raisedTo-alike e _ _ (chunks-shaped (size E) (tasks E) l h) p λ t j.
+    ap (max (number X e t)) (ap₂ kthLeast q (column-chunks (size E) (tasks E) l t cs h j ∙ ap (map (λ a. number X a t)) r))
+
+-- both steps
+pub event-raised : (E : Recording) (X Y Z : Vectors) (e : ℕ) → Y ≡ stepOne E X e → Z ≡ stepTwo E Y e → Z ≡ raisedEvent E X e
+unfolding stepTwo raisedEvent raised raisedTo stepOne
+event-raised E X Y Z e q r = r ∙ ap (λ (W : Vectors). stepTwo E W e) q ∙ set-set X e _ _

@@ -1,0 +1,75 @@
+-- raise_by_join meets its contract: the fork's vector is taken, then that of the last event.
+-- Assumes nothing.
+use mathlib.Core.Path.{_≡_, sym, ap, _∙_}
+use Prim.Native.Nat.{ℕ, _/_}
+use native.Mathlib.Omega.{arith}
+use borrow.Author.Needs.{needs}
+use lib.ListN.{length, getD}
+use Rattle.model.specs.declared.Event.{Event}
+use Rattle.model.specs.Recording.{size, isOn, ofTask, noEvent}
+use Rattle.model.specs.File.{eventsOf, recordingBy}
+use Rattle.vectors.proofs.Chunks.{next-row, chunks-shaped}
+use Rattle.vectors.proofs.Rising.{rose-none, rose-then}
+use Rattle.passes.specs.Lent.{vectorsIn}
+use Rattle.passes.proofs.Searches.{searched, found-below}
+use Rattle.passes.proofs.Taken.{inside, join-other, join-taken}
+use Rattle.passes.proofs.raise_by_join.Statement.{statement}
+use Rattle.passes.proofs.raise_by_join.Tie as tie
+
+returns : tie.Need-returns
+returns c =
+    let s = c .before .before .before .before .before in
+    let E = recordingBy (s .args .recs .now) (s .args .counts) in
+    let l = s .args .v .now in
+    let d = ap (λ (v : Event). v .kind) (c .before .before .event-at .ensures) in (
+      join-other E (vectorsIn (s .args .recs .now) (s .args .counts) l) (s .args .e) (chunks-shaped (size E) (s .args .counts .tasks) l (s .pre .1)) (s .pre .2)
+          (λ q. c .if1 .taken (d ∙ q)),
+      rose-none l,
+    )
+
+raise-found-requires : tie.Need-raise-found-requires
+raise-found-requires c κs =
+    let s = c .before .before .before .before .before .before .before .before in
+    let E = recordingBy (s .args .recs .now) (s .args .counts) in
+    let m = s .args .counts .tasks in
+    let n : length (s .args .recs .now) / 4 ≡ size E = omega (arith, s .pre .0 .whole) in
+    (omega (arith, next-row (s .args .e) (size E) m (s .pre .2)), inside m (size E) _ (c .before .last-on .result) (s .pre .1) (found-below _ _ (size E) _ (c .before .last-on .ensures) n))
+
+raise-found-requires-2 : tie.Need-raise-found-requires-2
+raise-found-requires-2 c κs =
+    let s = c .before .before .before .before .before .before .before .before .before .before .before .before .before in
+    let E = recordingBy (s .args .recs .now) (s .args .counts) in
+    let m = s .args .counts .tasks in
+    let n : length (s .args .recs .now) / 4 ≡ size E = omega (arith, s .pre .0 .whole) in
+    let k = c .before .before .before .before .raise-found .kept .0 ∙ s .pre .1 in
+    (omega (arith, next-row (s .args .e) (size E) m (s .pre .2)), inside m (size E) _ (c .before .task-before .result) k (found-below _ _ (size E) _ (c .before .task-before .ensures) n))
+
+returns-2 : tie.Need-returns-2
+returns-2 c =
+    let s = c .before .before .before .before .before .before .before .before .before .before .before .before .before .before .before .before in
+    let E = recordingBy (s .args .recs .now) (s .args .counts) in
+    let l = eventsOf (s .args .recs .now) in
+    let n : length (s .args .recs .now) / 4 ≡ size E = omega (arith, s .pre .0 .whole) in
+    let x = c .before .before .before .before .before .before .before .raise-found in
+    let y = c .before .before .raise-found2 in
+    let w = c .before .before .before .before .before .before .before .before .before .before .before .before .before .event-at .ensures in
+    let fork = searched (λ v a. isOn 3 (v .object) (getD l a noEvent)) _ _ _ (size E) (c .before .before .before .before .before .before .before .before .before .last-on .result) (c .before .before .before .before .before .before .before .before .before .last-on .ensures) w n in
+    let last = searched (λ v a. ofTask (v .object) (getD l a noEvent)) _ _ _ (size E) (c .before .before .before .before .task-before .result) (c .before .before .before .before .task-before .ensures) w n in (
+      join-taken E (s .args .v .now) (x .last .0) (y .last .0) (s .args .e) (c .before .before .before .before .before .before .before .before .before .last-on .result) (c .before .before .before .before .task-before .result) (s .pre .1) (x .kept .0 ∙ s .pre .1) (s .pre .2)
+          (sym (ap (λ (v : Event). v .kind) w) ∙ c .before .before .before .before .before .before .before .before .before .before .before .if1 .left) fork last (x .ensures .0) (y .ensures .0),
+      rose-then (x .ensures .1) (y .ensures .1),
+    )
+
+pub raise-by-join-spec : {M : Type 1} → statement M
+raise-by-join-spec =
+    tie.close
+    (tie.spec
+    (λ c κs. omega arith)
+    returns
+    (λ c. search needs)
+    (λ c κs. omega arith)
+    raise-found-requires
+    (λ c κs. omega arith)
+    raise-found-requires-2
+    (λ c. omega arith)
+    returns-2)

@@ -1,0 +1,70 @@
+-- record_all meets its contract: the recorded vectors of the events below e have been made.
+-- Assumes nothing.
+use mathlib.Core.Path.{_≡_, refl, sym, ap, _∙_}
+use Prim.Native.Nat.{ℕ, _+_, _-_, _≤_, _<_}
+use native.Mathlib.Omega.{arith}
+use lib.ListN.{length}
+use Rattle.model.specs.Recording.{size}
+use Rattle.model.specs.File.{recordingBy}
+use Rattle.model.specs.Vectors.{start}
+use Rattle.model.specs.Recorded.{recordedTo}
+use Rattle.model.proofs.Climb.{start-shaped}
+use Rattle.vectors.specs.Rows.{chunks}
+use Rattle.vectors.proofs.Chunks.{chunks-flat}
+use Rattle.passes.specs.Lent.{vectorsIn, Fitting}
+use Rattle.passes.proofs.Runs.{record-start, record-next, record-end, numbers-of}
+use Rattle.passes.proofs.record_all.Statement.{statement}
+use Rattle.passes.proofs.record_all.Tie as tie
+
+abbrev Inv-loop : tie.InvT-loop
+Inv-loop recs counts at v₀ n e₀ v e = (e ≤ n) × Fitting recs counts v × (vectorsIn recs counts v ≡ recordedTo (recordingBy recs counts) e)
+
+abbrev μ-loop : tie.MeasureT-loop
+μ-loop recs counts at v₀ n e₀ v e = n - e
+
+loop-holds : tie.Need-loop-holds Inv-loop μ-loop
+loop-holds c =
+    let s = c .before .before .before .before .before .before .before in
+    let a = s .args in
+    let f = c .before .before .start in
+    let E = recordingBy (a .recs .now) (a .counts) in (
+      omega arith,
+      f .kept .1 .1 .1 .0 ∙ s .pre .1,
+      record-start E _ (ap (chunks (size E) (a .counts .tasks)) (f .ensures) ∙ chunks-flat (size E) (a .counts .tasks) (start E) (start-shaped E)),
+    )
+
+record-event-requires : tie.Need-record-event-requires Inv-loop μ-loop
+record-event-requires c κs =
+    let s = c .before .before .before .before .before .before .before .before .before .before in
+    (s .pre .0 .records, c .before .before .loop .inv .1, omega (arith, s .pre .0 .records .whole))
+
+loop-again : tie.Need-loop-again Inv-loop μ-loop
+loop-again c =
+    let a = c .before .before .before .before .before .before .before .before .before .before .before .before .before .args in
+    let k = c .before .before .before .before .before .loop in
+    let f = c .before .before .record-event in
+    (omega arith, f .kept .1 .1 .1 .0 ∙ k .inv .1, record-next (recordingBy (a .recs .now) (a .counts)) _ _ (k .e) (k .inv .2) (f .ensures))
+
+returns : tie.Need-returns Inv-loop μ-loop
+returns c =
+    let s = c .before .before .before .before .before .before .before .before .before in
+    let a = s .args in
+    let k = c .before .loop in
+    let E = recordingBy (a .recs .now) (a .counts) in
+    let q : k .e ≡ size E = omega (arith, s .pre .0 .records .whole) in
+    numbers-of (size E) (a .counts .tasks) (k .v) _ (k .inv .1) (record-end E _ (k .e) q (k .inv .2))
+
+pub record-all-spec : {M : Type 1} → statement M
+record-all-spec =
+    tie.close
+    (tie.spec
+    Inv-loop
+    μ-loop
+    (λ c κs. c .before .before .before .before .pre)
+    loop-holds
+    record-event-requires
+    (λ c. omega arith)
+    (λ c. omega arith)
+    loop-again
+    (λ c. omega arith)
+    returns)

@@ -1,0 +1,51 @@
+-- record_event meets its contract: step 1, then the matched signal.
+-- Assumes nothing.
+use mathlib.Core.Path.{_≡_, sym, ap, _∙_}
+use Prim.Native.Nat.{ℕ}
+use native.Mathlib.Omega.{arith}
+use borrow.Author.Needs.{needs}
+use Rattle.model.specs.declared.Found.{Found}
+use Rattle.model.specs.Numbers.{found}
+use Rattle.model.specs.Recording.{size}
+use Rattle.model.specs.File.{recordingBy}
+use Rattle.vectors.specs.Rows.{chunks}
+use Rattle.vectors.proofs.Chunks.{next-row, chunks-shaped}
+use Rattle.passes.specs.Lent.{vectorsIn}
+use Rattle.passes.specs.Steps.{taken}
+use Rattle.passes.proofs.Taken.{inside, taken-found, record-event}
+use Rattle.passes.proofs.record_event.Statement.{statement}
+use Rattle.passes.proofs.record_event.Tie as tie
+
+raise-found-requires : tie.Need-raise-found-requires
+raise-found-requires c κs =
+    let s = c .before .before .before .before .before .before .before .before .before in
+    let E = recordingBy (s .args .recs .now) (s .args .counts) in
+    let m = s .args .counts .tasks in
+    let k = c .before .before .before .before .before .step-one .kept .1 .1 .1 .0 ∙ s .pre .1 in
+    (omega (arith, next-row (s .args .e) (size E) m (s .pre .2)), inside m (size E) _ (c .before .before .matched .result) k (c .before .before .matched .ensures .1))
+
+returns : tie.Need-returns
+returns c =
+    let s = c .before .before .before .before .before .before .before .before .before .before .before .before in
+    let r = s .args .recs .now in
+    let a = s .args .counts in
+    let E = recordingBy r a in
+    let x = c .before .before .before .before .before .before .before .before .step-one in
+    let y = c .before .before .raise-found in
+    let l = x .last .1 .1 .1 .0 in
+    let k = x .kept .1 .1 .1 .0 ∙ s .pre .1 in
+    let z = ap (chunks (size E) (a .tasks)) (y .ensures .0)
+    ∙ taken-found a (size E) l (s .args .e) (c .before .before .before .before .before .matched .result) k (s .pre .2)
+    ∙ ap (λ (f : Found). taken a (chunks (size E) (a .tasks) l) (found f) (s .args .e)) (c .before .before .before .before .before .matched .ensures .0 a) in
+    record-event E _ _ _ (s .args .e) (chunks-shaped (size E) (a .tasks) (s .args .v .now) (s .pre .1)) (s .pre .2) (x .ensures .0) z
+
+pub record-event-spec : {M : Type 1} → statement M
+record-event-spec =
+    tie.close
+    (tie.spec
+    (λ c κs. c .before .before .before .pre)
+    (λ c κs. (c .before .before .before .before .before .before .pre .0 .whole, c .before .before .before .before .before .before .pre .2))
+    (λ c. search needs)
+    raise-found-requires
+    (λ c. omega arith)
+    returns)

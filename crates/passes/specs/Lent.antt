@@ -1,0 +1,56 @@
+-- What the functions of this crate are lent, as facts about the recording of the record bytes.
+-- Assumes nothing.
+use Prim.Native.Nat.{ℕ, _+_, _*_, _≤_, _<_}
+use mathlib.Core.Path.{_≡_}
+use mathlib.Core.List.{List}
+use lib.ListN.{length, getD}
+use Rattle.model.specs.declared.Counts.{Counts}
+use Rattle.model.specs.declared.Found.{Found}
+use Rattle.model.specs.Recording.{size, taskOf}
+use Rattle.model.specs.File.{eventsOf, recordingBy}
+use Rattle.model.specs.Vectors.{Vectors, position}
+use Rattle.vectors.specs.Rows.{chunks, raisedAt}
+
+-- lent numbers as one vector for each event
+abbrev pub vectorsIn : List ℕ → Counts → List ℕ → Vectors
+vectorsIn s c v = chunks (size (recordingBy s c)) (c .tasks) v
+
+-- they are as many as the vectors have
+abbrev pub Fitting : List ℕ → Counts → List ℕ → Type 0
+Fitting s c v = length v ≡ size (recordingBy s c) * c .tasks
+
+-- a is the number of an event of these record bytes
+abbrev pub Numbered : List ℕ → ℕ → Type 0
+Numbered s a = a < length (eventsOf s)
+
+-- the record bytes s are whole records, at most 1,024, each of a task below the number of tasks
+pub record Records (s : List ℕ) (c : Counts) : Type 0 where
+  pub whole : length s ≡ 4 * size (recordingBy s c)
+  pub few : size (recordingBy s c) ≤ 1024
+  pub named : (e : ℕ) → e < size (recordingBy s c) → taskOf (recordingBy s c) e < c .tasks
+
+-- and `at` has the positions of their events
+pub record Placed (s : List ℕ) (c : Counts) (at : List ℕ) : Type 0 where
+  pub records : Records s c
+  pub room : size (recordingBy s c) ≤ length at
+  pub placed : (e : ℕ) → e < size (recordingBy s c) → getD at e 0 ≡ position (recordingBy s c) e
+
+-- the first that was found
+abbrev pub firstFound : Found → Found → Found
+firstFound (Found.At a) g = Found.At a
+firstFound Found.Nothing g = g
+
+-- a found event is below n
+abbrev pub Below : ℕ → Found → Type 0
+Below n (Found.At a) = a < n
+Below n Found.Nothing = Unit {0}
+
+-- the vector of a found event, of m numbers, lies in a list of this length
+abbrev pub Inside : ℕ → ℕ → Found → Type 0
+Inside m len (Found.At a) = a * m + m ≤ len
+Inside m len Found.Nothing = Unit {0}
+
+-- vector e raised to that of a found event, in a flat list
+abbrev pub raisedFound : ℕ → List ℕ → ℕ → Found → List ℕ
+raisedFound m l e (Found.At s) = raisedAt l (e * m) (λ t. getD l (s * m + t) 0) m
+raisedFound m l e Found.Nothing = l

@@ -1,0 +1,4 @@
+pub mod Chunks
+pub mod Raised
+pub mod Rising
+pub mod Stores
