@@ -19,12 +19,15 @@ use Rattle.model.specs.Reading.{fileCheck, readingBy, readingOf, recordsOf}
 use Rattle.model.specs.Passes.{run}
 use Rattle.model.specs.Pairs.{Entry, listed, entryNumbers}
 use Rattle.model.specs.Analysing.{workFits, listFits, workCheck, analysisCheck, done, analysisBy, analysisOf, workAfter, listAfter}
-use Rattle.model.proofs.Tests.{leb-true, le-leb}
+use Rattle.model.proofs.Tests.{leb-true, le-leb, lt-ltb, le-ltb}
 use Rattle.model.proofs.Checks.{unless-passed, then-passed}
 use Rattle.model.proofs.Files.{sound, events-length, size-records}
-use Rattle.report.specs.Report.{resultLine, refusalLine, entriesText, resultText, budgetOf, reportBy}
+use Rattle.report.specs.Text.{bytes}
+use Rattle.report.specs.Output.{laid, filling, Put}
+use Rattle.report.specs.Report.{resultLine, resultText, budgetOf, reportBy, isLong, reportOf, reportedWork, reportedList}
 use Rattle.report.specs.Entries.{nthLine}
 use Rattle.report.specs.Answer.{budgetIn, tasksIn, Holds, answerText}
+use Rattle.report.proofs.Putting.{put-laid}
 use Rattle.report.proofs.Listing.{each-entry}
 
 numbers-length : (l : List Entry) → length (entryNumbers l) ≡ 3 * length l
@@ -101,3 +104,43 @@ module _ (f : List ℕ) where
         rw (q, the-events p, the-tasks p, the-records p)
         (ap (λ (x : List ℕ). resultLine (size E) (tasks E) (run E b .passes) (run E b .settled) (length l) ++ x) (each-entry (recordBytes f (headerOf f)) (headerOf f .counts) l (drop (3 * length l) list)))
     the-answer (Check.Failed r) q = rw q
+
+-- ---- what the program prints, and what it leaves
+
+-- the four parts of the contract
+abbrev pub Printed : (f work list out work′ list′ out′ : List ℕ) (r : ℕ) → Type 0
+Printed f work list out work′ list′ out′ r =
+    (r ≡ filling (reportOf f work list) out) × ((out′ ≡ laid (reportOf f work list) out) × ((work′ ≡ reportedWork f work) × (list′ ≡ reportedList f work list)))
+
+pub long-printed : (f work list out out′ : List ℕ) (r : ℕ) → 16384 < length f → Put out out′ 0 (bytes "too long\n") r → Printed f work list out work list out′ r
+unfolding isLong reportOf reportedWork reportedList
+long-printed f work list out out′ r h p =
+    let (o, n) = put-laid out out′ (bytes "too long\n") r p in rw (lt-ltb 16384 (length f) h) (n, (o, (refl, refl)))
+
+-- a file that is not too long: what the calls gave
+pub record Called (f work list s : List ℕ) (b t : ℕ) (a : Analysis) (work′ list′ : List ℕ) : Type 0 where
+  pub records : s ≡ recordsOf f
+  pub budget : b ≡ budgetIn s
+  pub tasks : t ≡ tasksIn (readingOf f)
+  pub answer : a ≡ analysisOf f b work list
+  pub work-left : work′ ≡ workAfter f b work
+  pub list-left : list′ ≡ listAfter f b work list
+
+module _ (f work list s : List ℕ) (b t : ℕ) (a : Analysis) (work′ list′ : List ℕ) (c : Called f work list s b t a work′ list′) where
+  the-call : b ≡ budgetIn (recordsOf f)
+  the-call = c .budget ∙ ap budgetIn (c .records)
+
+  pub called-holds : Holds a list′
+  called-holds = rw (c .answer, c .list-left) (held f b work list (analysisCheck f b work list) refl)
+
+  the-text : answerText s t a list′ ≡ reportBy (recordingOf f) (budgetOf (recordingOf f)) (analysisCheck f (budgetOf (recordingOf f)) work list)
+  the-text =
+      rw (c .records, c .tasks, c .answer, c .list-left, the-call, same-answer f work list, same-list f work list)
+      (the-answer f (budgetOf (recordingOf f)) work list (analysisCheck f (budgetOf (recordingOf f)) work list) refl)
+
+  pub short-printed : (out out′ : List ℕ) (r : ℕ) → length f ≤ 16384 → Put out out′ 0 (answerText s t a list′) r → Printed f work list out work′ list′ out′ r
+  unfolding isLong reportOf reportedWork reportedList
+  short-printed out out′ r h p =
+      let (o, n) = put-laid out out′ (answerText s t a list′) r p in
+      rw (le-ltb 16384 (length f) h, sym the-text)
+      (n, (o, (c .work-left ∙ rw the-call (same-work f work), c .list-left ∙ rw the-call (same-list f work list))))
