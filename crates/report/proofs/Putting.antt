@@ -4,11 +4,11 @@ use Prim.Native.Nat.{ℕ, suc, _+_, _≤_, _<_, min}
 use mathlib.Core.Path.{_≡_, refl, sym, ap, _∙_}
 use mathlib.Core.Bool.{false}
 use mathlib.Core.List.{List, [], _∷_, _++_}
-use native.Mathlib.Nat.{min-eq-left, min-eq-right, add-zero, zero-add}
+use native.Mathlib.Nat.{min-comm, min-eq-left, min-eq-right, add-zero, zero-add}
 use native.Mathlib.Numerals.{add-one}
 use native.Mathlib.Omega.{arith}
 use lib.Dec.{leb}
-use lib.ListN.{length, getD, set, take, drop, length-append, length-set, take-append-drop, drop-of-length-le}
+use lib.ListN.{length, getD, set, take, drop, length-append, length-set, length-take, take-append-drop, drop-of-length-le}
 use lib.Seq.{sets, sets-eq, length-sets, set-out, take-all, take-suc, length-take-le}
 use Rattle.model.proofs.Tests.{cases, leb-true, leb-false}
 use Rattle.report.specs.Output.{laid, filling, Put}
@@ -105,10 +105,12 @@ put-next text k h p q = rw (add-one k, take-suc text k 0 h) (put-then p q)
 -- ---- a text at the start
 
 laid-all : (text l : List ℕ) → length text ≤ length l → sets l 0 text ≡ laid text l
+unfolding laid
 laid-all text l h = sets-eq text l 0 (omega arith) ∙ rw (zero-add (length text), take-all (length l) text h)
 
 -- a text that is longer than the output fills it
 laid-over : (text l : List ℕ) → length l ≤ length text → sets l 0 text ≡ laid text l
+unfolding laid
 laid-over text l h =
     let xs = take (length l) text in
     let n : length xs ≡ length l = length-take-le (length l) text h in
@@ -120,6 +122,7 @@ laid-over text l h =
     ∙ rw (take-all (length l) xs (omega arith), drop-of-length-le l {i = length xs} (omega arith), drop-of-length-le l {i = length text} h)
 
 pub put-laid : (l m text : List ℕ) (r : ℕ) → Put l m 0 text r → (m ≡ laid text l) × (r ≡ filling text l)
+unfolding filling
 put-laid l m text r p =
     let over : leb (length text) (length l) ≡ false → sets l 0 text ≡ laid text l = λ t.
     let f : length l < length text = leb-false _ _ t in laid-over text l (omega arith)
@@ -127,3 +130,10 @@ put-laid l m text r p =
       p .bytes ∙ cases (leb (length text) (length l)) (λ t. laid-all text l (leb-true _ _ t)) over,
       p .place ∙ rw (zero-add (length text)),
     )
+
+-- the bytes that are put are bytes of the output
+pub filling-within : (text l m : List ℕ) (r : ℕ) → r ≡ filling text l → m ≡ laid text l → r ≤ length m
+unfolding filling laid
+filling-within text l m r p q =
+    let front : length (take (length l) text) ≡ r = length-take (length l) text ∙ min-comm (length l) (length text) ∙ sym p in
+    omega (arith, ap length q ∙ length-append (take (length l) text) (drop (length text) l))

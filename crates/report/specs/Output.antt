@@ -7,11 +7,11 @@ use lib.ListN.{length, take, drop}
 use lib.Seq.{sets}
 
 -- the output with the text at its start
-abbrev pub laid : List ℕ → List ℕ → List ℕ
+unfoldable pub laid : List ℕ → List ℕ → List ℕ
 laid text out = take (length out) text ++ drop (length text) out
 
 -- how many bytes of it the text fills
-abbrev pub filling : List ℕ → List ℕ → ℕ
+unfoldable pub filling : List ℕ → List ℕ → ℕ
 filling text out = min (length text) (length out)
 
 -- putting the text at a place of an output turns old into new, and the next place is next
