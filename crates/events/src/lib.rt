@@ -19,6 +19,7 @@ pub fn u16_at(s: &[u8], i: usize) -> u16
     (s[i] as u16) + 256 * (s[i + 1] as u16)
 }
 
+// Event e, which is record e.
 pub fn event_at(recs: &[u8], e: usize) -> Event
     requires { ⌜ 4 * e + 3 < length (now recs) ⌝ }
     ensures { λ r. ⌜ r ≡ getD (eventsOf (now (recs .entry))) e noEvent ⌝ }
