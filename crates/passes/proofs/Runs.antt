@@ -1,13 +1,12 @@
 -- A pass event by event, a run pass by pass, and the recorded run event by event.
 -- Assumes nothing.
-use Prim.Native.Nat.{ℕ, zero, suc, _+_, _-_, _*_, _≤_, _<_}
-use mathlib.Core.Path.{_≡_, refl, sym, ap, subst, _∙_}
+use Prim.Native.Nat.{ℕ, _+_, _-_, _*_, _≤_}
+use mathlib.Core.Path.{_≡_, refl, sym, ap, _∙_}
 use mathlib.Core.Bool.{Bool, true, false, not}
 use mathlib.Core.List.{List}
 use native.Mathlib.Numerals.{add-one}
-use native.Mathlib.Omega.{arith}
-use lib.ListN.{length, set}
-use Rattle.model.specs.Recording.{Recording, size, tasks}
+use lib.ListN.{length}
+use Rattle.model.specs.Recording.{Recording, size}
 use Rattle.model.specs.Vectors.{Vectors, flat, start}
 use Rattle.model.specs.Passes.{passTo, pass, sameRow, same, Run, run}
 use Rattle.model.specs.Recorded.{recordedTo, recorded}

@@ -1,17 +1,15 @@
 -- What the searches over the records find: below which number it lies, and the signal that matches a wait.
 -- Assumes nothing.
-use Prim.Native.Nat.{ℕ, zero, suc, _+_, _*_, _≤_, _<_}
+use Prim.Native.Nat.{ℕ, zero, suc, _+_, _≤_, _<_}
 use mathlib.Core.Path.{_≡_, refl, sym, ap, ap₂, subst, _∙_}
-use mathlib.Core.Bool.{Bool, true, false}
-use mathlib.Core.List.{List, []}
-use native.Mathlib.Nat.{le-refl}
+use mathlib.Core.Bool.{Bool, true}
+use mathlib.Core.List.{List}
 use native.Mathlib.Omega.{arith}
-use lib.Dec.{eqb}
 use lib.ListN.{length, getD, take}
 use Rattle.model.specs.declared.Event.{Event}
 use Rattle.model.specs.declared.Found.{Found}
 use Rattle.model.specs.Numbers.{bit, sum, tally, count, picked, lastOf, nth}
-use Rattle.model.specs.Recording.{Recording, size, event, noEvent, taskOf, kindOf, objectOf, ofTask, isOn, isWait, isSignal}
+use Rattle.model.specs.Recording.{Recording, size, event, noEvent, taskOf, kindOf, objectOf, ofTask, isOn}
 use Rattle.model.specs.Passes.{previous, signalsOn}
 use Rattle.model.specs.Recorded.{waitsBefore, matched}
 use Rattle.model.proofs.Tests.{eq-eqb, ne-eqb}
@@ -28,10 +26,6 @@ last-below p n = go (lastOf p n) refl
     go (Found.At x) q = last-some p n x q .inside
     go Found.Nothing q = tt
 
-pub below-more : (m n : ℕ) (f : Found) → m ≤ n → Below m f → Below n f
-below-more m n (Found.At x) h b = omega arith
-below-more m n Found.Nothing h b = tt
-
 -- a search by what is known of an event, and where it looked
 pub searched : (P : Event → ℕ → Bool) (v w : Event) (n m : ℕ) (r : Found) → r ≡ lastOf (P v) n → v ≡ w → n ≡ m → r ≡ lastOf (P w) m
 searched P v w n m r q p h = q ∙ ap₂ (λ (u : Event) (k : ℕ). lastOf (P u) k) p h
@@ -47,13 +41,6 @@ before-at E e a f g p q =
 
 pub before-none : (E : Recording) (e : ℕ) (f g : Found) → f ≡ previous E e → f ≡ Found.Nothing → g ≡ firstFound (previous E e) g
 before-none E e f g p q = sym (ap (λ (m : Found). firstFound m g) (sym p ∙ q))
-
-pub nth-below : (p : ℕ → Bool) (n k : ℕ) → Below n (nth (picked p n) k)
-nth-below p n k = go (nth (picked p n) k) refl
-  where
-    go : (m : Found) → nth (picked p n) k ≡ m → Below n m
-    go (Found.At x) q = nth-of p n k x q .0
-    go Found.Nothing q = tt
 
 -- the number of rank k
 pub nth-here : (p : ℕ → Bool) (n k a : ℕ) → a < n → p a ≡ true → tally p a ≡ k → Found.At a ≡ nth (picked p n) k

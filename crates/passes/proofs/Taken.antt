@@ -1,8 +1,7 @@
 -- Step 1: what is found is taken one event after another, and in the end the largest of all, number by number, is there.
 -- Assumes nothing.
-use Prim.Native.Nat.{ℕ, zero, suc, _+_, _*_, _≤_, _<_, zero-le, max}
+use Prim.Native.Nat.{ℕ, _+_, _*_, _<_, zero-le, max}
 use mathlib.Core.Path.{_≡_, refl, sym, ap, ap₂, _∙_}
-use mathlib.Core.Bool.{Bool, true, false}
 use mathlib.Core.List.{List, [], _∷_, _++_}
 use native.Mathlib.Omega.{arith}
 use lib.Dec.{eqb}

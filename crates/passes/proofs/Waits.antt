@@ -4,22 +4,21 @@ use Prim.Native.Nat.{ℕ, zero, suc, _+_, _*_, _≤_, _<_, zero-le, max}
 use mathlib.Core.Path.{_≡_, refl, sym, ap, ap₂, _∙_}
 use mathlib.Core.Bool.{Bool, true, false, cond, not, _&&_}
 use mathlib.Core.List.{List, [], _∷_, _++_, map, append-nil, append-assoc}
-use native.Mathlib.Nat.{not-suc-le-zero, add-zero}
+use native.Mathlib.Nat.{not-suc-le-zero}
 use native.Mathlib.Numerals.{add-one}
 use native.Mathlib.Omega.{arith}
-use lib.Dec.{eqb}
-use lib.ListN.{length, getD, set, drop, length-append, List·getD-append}
-use lib.Seq.{set-at, set-set, drop-cons, getD-append-add}
-use Rattle.model.specs.Numbers.{bit, sum, tally, count, filter, each, picked, kthLeast}
+use lib.ListN.{length, getD, set, drop, length-append}
+use lib.Seq.{set-at, set-set, drop-cons}
+use Rattle.model.specs.Numbers.{tally, filter, each, picked, kthLeast}
 use Rattle.model.specs.Recording.{Recording, size, tasks, event, kindOf, objectOf, isSignal, isWait}
 use Rattle.model.specs.Vectors.{Vectors, number, ordered}
-use Rattle.model.specs.Passes.{signalsOn, waitsOn, kOf, needed, candidates, served, gathered, sources, stepOne, raised}
-use Rattle.model.proofs.Tests.{cases, bit-true, bit-false, bit-le, eq-eqb, ne-eqb}
+use Rattle.model.specs.Passes.{signalsOn, waitsOn, kOf, needed, candidates, served, stepOne, raised}
+use Rattle.model.proofs.Tests.{cases, eq-eqb, ne-eqb}
 use Rattle.model.proofs.Least.{kth-zero}
 use Rattle.model.proofs.Picked.{count-picked}
 use Rattle.model.proofs.Climb.{Shaped}
 use Rattle.vectors.specs.Rows.{chunks, column, raisedAt, raisedTo}
-use Rattle.vectors.proofs.Chunks.{chunks-shaped, column-chunks, map-same}
+use Rattle.vectors.proofs.Chunks.{chunks-shaped, column-chunks}
 use Rattle.vectors.proofs.Raised.{raisedTo-alike, raisedTo-none, chunks-raised}
 use Rattle.passes.specs.Steps.{waitBefore, candidate, candidatesOn, waited, stepTwo, raisedEvent}
 

@@ -1,5 +1,4 @@
 // Reading and writing recording files.
-mod rules; // rules.rt: the record check, the same for reading and writing
 pub mod reading; // reading.rt: a file's header or refusal, and its parts
 pub mod writing; // writing.rt: a file from record bytes and counts
 

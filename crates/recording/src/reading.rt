@@ -4,13 +4,13 @@ ghost use Prim.Native.Nat.{_+_, _≤_, _<_};
 ghost use lib.ListN.{length};
 ghost use Rattle.model.specs.File.{u32At, headerOf};
 ghost use Rattle.model.specs.Reading.{readingOf, preambleOf, recordsOf};
-use crate::rules::first_fault;
-use crate::rules::in_range;
 use model::Check;
 use model::Counts;
 use model::Header;
 use model::Reading;
 use model::Refusal;
+use rules::first_fault;
+use rules::in_range;
 
 // The number of four bytes, little-endian.
 fn u32_at(s: &[u8], i: usize) -> usize

@@ -4,12 +4,12 @@ ghost use mathlib.Core.List.{_++_};
 ghost use Prim.Native.Nat.{_+_, _≤_};
 ghost use lib.ListN.{length, take, drop};
 ghost use Rattle.model.specs.Writing.{trailerBytes, fileOf, recordsCheck, writingCheck, writtenOf, outAfter};
-use crate::rules::first_fault;
-use crate::rules::in_range;
 use model::Check;
 use model::Counts;
 use model::Refusal;
 use model::Written;
+use rules::first_fault;
+use rules::in_range;
 
 // The checks that reading the file would make.
 fn records_check(records: &[u8], counts: Counts) -> Check

@@ -3,16 +3,15 @@
 use Prim.Native.Nat.{ℕ, zero, suc, _+_, _-_, _*_, _≤_, _<_, max}
 use mathlib.Core.Path.{_≡_, refl, sym, ap, ap₂, _∙_}
 use mathlib.Core.Logic.{_⊎_, inl, inr, ⊎-elim}
-use mathlib.Core.List.{List, [], _∷_}
+use mathlib.Core.List.{List}
 use native.Mathlib.Nat.{not-suc-le-zero, max-eq-left}
 use native.Mathlib.Numerals.{add-one}
 use native.Mathlib.Omega.{arith}
 use lib.Dec.{eqb}
 use lib.ListN.{length, getD, set, length-set}
-use lib.Seq.{getD-set-same, getD-set-other, set-getD, ext-getD}
-use Rattle.model.specs.Numbers.{listOf}
+use lib.Seq.{getD-set-same, getD-set-other, set-getD}
 use Rattle.model.specs.Vectors.{Vectors, number}
-use Rattle.model.proofs.Tests.{cases, compared, tests, last-or-lower, eqb-true, eqb-false}
+use Rattle.model.proofs.Tests.{cases, compared, last-or-lower, eqb-true, eqb-false}
 use Rattle.model.proofs.Lists.{listOf-at, listOf-length, number-set-same, number-set-other}
 use Rattle.model.proofs.Climb.{Shaped, set-shaped}
 use Rattle.vectors.specs.Rows.{chunks, column, raisedAt, raisedTo}

@@ -1,6 +1,6 @@
 -- Steps that only raise numbers, one after another: the flag of all is the or of their flags.
 -- Assumes nothing.
-use Prim.Native.Nat.{ℕ, zero, suc, _+_, _-_, _*_, _≤_, _<_, max}
+use Prim.Native.Nat.{ℕ, zero, suc, _-_, _≤_, _<_}
 use mathlib.Core.Path.{_≡_, refl, sym, ap, ap₂, _∙_}
 use mathlib.Core.Bool.{Bool, true, false, not, _&&_, _||_}
 use mathlib.Core.List.{List, [], _∷_}
@@ -10,7 +10,7 @@ use lib.Dec.{eqb}
 use lib.ListN.{length, getD, set, length-set}
 use lib.Seq.{getD-set-same}
 use Rattle.model.specs.Passes.{sameRow}
-use Rattle.model.proofs.Tests.{cases, tests, and-true, and-fails, eqb-true, eqb-false, eq-eqb, ne-eqb}
+use Rattle.model.proofs.Tests.{cases, and-fails, eqb-true, eqb-false, eq-eqb, ne-eqb}
 use Rattle.vectors.specs.Rows.{Rose}
 
 pub sameRow-refl : (l : List ℕ) → sameRow l l ≡ true

@@ -1,6 +1,6 @@
 -- is_on meets its contract.
 -- Assumes nothing.
-use mathlib.Core.Path.{_≡_, ap}
+use mathlib.Core.Path.{ap}
 use native.Mathlib.Omega.{arith}
 use Rattle.model.specs.declared.Event.{Event}
 use Rattle.model.specs.Recording.{isOn}

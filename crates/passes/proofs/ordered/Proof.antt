@@ -1,12 +1,11 @@
 -- ordered meets its contract: the number read is that of b for a's task.
 -- Assumes nothing.
-use mathlib.Core.Path.{_≡_, sym, ap, _∙_}
-use Prim.Native.Nat.{ℕ, _<_}
-use lib.ListN.{length}
+use mathlib.Core.Path.{sym, ap, _∙_}
+use Prim.Native.Nat.{_<_}
 use native.Mathlib.Omega.{arith}
 use borrow.Author.Needs.{needs}
 use Rattle.model.specs.declared.Event.{Event}
-use Rattle.model.specs.Recording.{size, taskOf}
+use Rattle.model.specs.Recording.{size}
 use Rattle.model.specs.File.{recordingBy}
 use Rattle.model.specs.Vectors.{number}
 use Rattle.vectors.proofs.Chunks.{number-chunks}

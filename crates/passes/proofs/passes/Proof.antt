@@ -1,9 +1,8 @@
 -- passes meets its contract: so far as many passes were made as are counted, and none of them was quiet.
 -- Assumes nothing.
-use mathlib.Core.Path.{_≡_, refl, sym, ap, _∙_}
-use Prim.Native.Nat.{ℕ, _+_, _-_, _≤_, _<_}
+use mathlib.Core.Path.{ap, _∙_}
+use Prim.Native.Nat.{_-_, _≤_}
 use native.Mathlib.Omega.{arith}
-use lib.ListN.{length}
 use Rattle.model.specs.Recording.{size}
 use Rattle.model.specs.File.{recordingBy}
 use Rattle.model.specs.Vectors.{start}

@@ -1,7 +1,6 @@
 -- raise_event meets its contract.
 -- Assumes nothing.
-use mathlib.Core.Path.{_≡_, _∙_}
-use Prim.Native.Nat.{ℕ}
+use mathlib.Core.Path.{_∙_}
 use native.Mathlib.Omega.{arith}
 use Rattle.model.specs.File.{recordingBy}
 use Rattle.vectors.proofs.Rising.{rose-then}

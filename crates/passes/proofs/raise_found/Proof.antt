@@ -1,10 +1,9 @@
 -- raise_found meets its contract.
 -- Assumes nothing.
-use mathlib.Core.Path.{_≡_, sym, ap, _∙_}
+use mathlib.Core.Path.{sym, ap, _∙_}
 use native.Mathlib.Omega.{arith}
 use borrow.Author.Needs.{needs}
-use Rattle.model.specs.declared.Found.{Found}
-use Rattle.passes.specs.Lent.{raisedFound, Inside}
+use Rattle.passes.specs.Lent.{raisedFound}
 use Rattle.vectors.proofs.Rising.{rose-none}
 use Rattle.passes.proofs.raise_found.Statement.{statement}
 use Rattle.passes.proofs.raise_found.Tie as tie

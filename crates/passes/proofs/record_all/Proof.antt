@@ -1,9 +1,8 @@
 -- record_all meets its contract: the recorded vectors of the events below e have been made.
 -- Assumes nothing.
-use mathlib.Core.Path.{_≡_, refl, sym, ap, _∙_}
-use Prim.Native.Nat.{ℕ, _+_, _-_, _≤_, _<_}
+use mathlib.Core.Path.{_≡_, ap, _∙_}
+use Prim.Native.Nat.{_-_, _≤_}
 use native.Mathlib.Omega.{arith}
-use lib.ListN.{length}
 use Rattle.model.specs.Recording.{size}
 use Rattle.model.specs.File.{recordingBy}
 use Rattle.model.specs.Vectors.{start}

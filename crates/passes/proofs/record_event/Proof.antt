@@ -1,7 +1,6 @@
 -- record_event meets its contract: step 1, then the matched signal.
 -- Assumes nothing.
-use mathlib.Core.Path.{_≡_, sym, ap, _∙_}
-use Prim.Native.Nat.{ℕ}
+use mathlib.Core.Path.{ap, _∙_}
 use native.Mathlib.Omega.{arith}
 use borrow.Author.Needs.{needs}
 use Rattle.model.specs.declared.Found.{Found}
@@ -10,7 +9,6 @@ use Rattle.model.specs.Recording.{size}
 use Rattle.model.specs.File.{recordingBy}
 use Rattle.vectors.specs.Rows.{chunks}
 use Rattle.vectors.proofs.Chunks.{next-row, chunks-shaped}
-use Rattle.passes.specs.Lent.{vectorsIn}
 use Rattle.passes.specs.Steps.{taken}
 use Rattle.passes.proofs.Taken.{inside, taken-found, record-event}
 use Rattle.passes.proofs.record_event.Statement.{statement}

@@ -1,7 +1,6 @@
 -- step_two meets its contract: an event that is no wait needs none, and is raised to nothing.
 -- Assumes nothing.
-use mathlib.Core.Path.{_≡_, sym, ap, _∙_}
-use Prim.Native.Nat.{ℕ}
+use mathlib.Core.Path.{sym, ap, _∙_}
 use native.Mathlib.Omega.{arith}
 use Rattle.model.specs.declared.Event.{Event}
 use Rattle.model.specs.Recording.{size}

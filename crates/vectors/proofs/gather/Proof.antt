@@ -1,9 +1,9 @@
 -- gather meets its contract: to write the numbers that are left over what is there gives them all.
 -- Assumes nothing.
-use mathlib.Core.Path.{_≡_, refl, sym, ap, _∙_}
-use Prim.Native.Nat.{ℕ, _+_, _-_, _*_, _≤_, _<_}
+use mathlib.Core.Path.{_≡_, refl, sym, _∙_}
+use Prim.Native.Nat.{_-_, _≤_}
 use native.Mathlib.Omega.{arith}
-use lib.ListN.{length, getD, drop, length-set}
+use lib.ListN.{length, drop, length-set}
 use lib.Seq.{sets}
 use Rattle.vectors.specs.Rows.{column}
 use Rattle.vectors.proofs.Chunks.{column-length, column-at}

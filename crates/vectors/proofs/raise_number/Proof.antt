@@ -1,10 +1,10 @@
 -- raise_number meets its contract: where y is the larger it is stored, else the larger is there.
 -- Assumes nothing.
-use mathlib.Core.Path.{_≡_, sym, ap, _∙_}
-use Prim.Native.Nat.{ℕ, max}
+use mathlib.Core.Path.{sym, ap, _∙_}
+use Prim.Native.Nat.{ℕ}
 use native.Mathlib.Nat.{max-eq-left, max-eq-right}
 use native.Mathlib.Omega.{arith}
-use lib.ListN.{getD, set}
+use lib.ListN.{set}
 use lib.Seq.{set-getD}
 use borrow.Author.Needs.{needs}
 use Rattle.vectors.proofs.Rising.{rose-none, rose-one}

@@ -1,6 +1,6 @@
 -- raise_to_kth meets its contract: the k-th least of fewer than k numbers is 0, and raises nothing.
 -- Assumes nothing.
-use mathlib.Core.Path.{_≡_, sym}
+use mathlib.Core.Path.{sym}
 use Prim.Native.Nat.{ℕ, _*_}
 use native.Mathlib.Omega.{arith}
 use Rattle.model.specs.Numbers.{kthLeast}

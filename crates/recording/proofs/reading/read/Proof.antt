@@ -1,12 +1,28 @@
 -- `recording::reading::read` meets its contract. Each return cites the law of the test that led to it. Assumes nothing.
 use native.Mathlib.Omega.{arith}
 use borrow.Author.Needs.{needs}
-use mathlib.Core.Path.{sym, _∙_}
-use borrow.Author.Tests.{not-true, not-false}
+use mathlib.Core.Path.{_≡_, sym, _∙_}
 use Rattle.model.specs.File.{editionOf}
+use Rattle.model.specs.Reading.{fileCheck}
+use Rattle.rules.proofs.Laws.{passed, failed}
 use Rattle.recording.proofs.Files.{refused-by, accepted-by, too-short, other-edition, no-extent, out-of-range, by-records}
 use Rattle.recording.proofs.reading.read.Statement.{statement}
 use Rattle.recording.proofs.reading.read.Tie as tie
+
+-- after the second test the edition is 1
+edition : (c : tie.Else2) → editionOf (c .before .before .before .before .args .file .now) ≡ 1
+unfolding editionOf
+edition c = sym (c .before .u16-at .ensures) ∙ c .if2 .left
+
+-- after the fourth the file's check is that of its records
+checked : (c : tie.After-first-fault) → fileCheck (c .before .before .before .before .before .before .before .before .before .before .before .before .args .file .now) ≡ c .first-fault .result
+checked c =
+    let ranged = c .before .before in
+    let met = ranged .before .before .before in
+    let header = met .before .before in
+    let known = header .before in
+    by-records _ (known .before .before .if1 .left) (edition known) _ (header .header-of .ensures .0) (met .if3 .left)
+    (passed (ranged .before .in-range .ensures) (ranged .if4 .left)) _ (c .first-fault .ensures)
 
 returns : tie.Need-returns
 returns c = refused-by _ _ (too-short _ (c .if1 .taken))
@@ -16,30 +32,25 @@ unfolding editionOf
 returns-2 c = refused-by _ _ (other-edition _ (c .before .before .if1 .left) (λ e. c .if2 .taken (c .before .u16-at .ensures ∙ e)))
 
 returns-3 : tie.Need-returns-3
-unfolding editionOf
 returns-3 c =
-    refused-by _ _ (no-extent _ (c .before .before .before .before .before .if1 .left) (sym (c .before .before .before .before .u16-at .ensures) ∙ c .before .before .before .if2 .left) _ (c .before .before .header-of .ensures .0) (c .if3 .taken))
+    let header = c .before .before in
+    let known = header .before in
+    refused-by _ _ (no-extent _ (known .before .before .if1 .left) (edition known) _ (header .header-of .ensures .0) (c .if3 .taken))
 
 returns-4 : tie.Need-returns-4
-unfolding editionOf
 returns-4 c =
+    let met = c .before .before .before in
+    let header = met .before .before in
+    let known = header .before in
     refused-by _ _
-    (out-of-range _ (c .before .before .before .before .before .before .before .before .if1 .left) (sym (c .before .before .before .before .before .before .before .u16-at .ensures) ∙ c .before .before .before .before .before .before .if2 .left) _ (c .before .before .before .before .before .header-of .ensures .0) (c .before .before .before .if3 .left)
-    (sym (c .before .in-range .ensures) ∙ not-true (c .before .in-range .result) (c .if4 .taken)))
+    (out-of-range _ (known .before .before .if1 .left) (edition known) _ (header .header-of .ensures .0) (met .if3 .left)
+    (failed (c .before .in-range .ensures) (c .if4 .taken)))
 
 returns-5 : tie.Need-returns-5
-unfolding editionOf
-returns-5 c =
-    accepted-by _ _ (c .before .before .before .before .before .before .before .before .before .header-of .ensures .0)
-    (by-records _ (c .before .before .before .before .before .before .before .before .before .before .before .before .if1 .left) (sym (c .before .before .before .before .before .before .before .before .before .before .before .u16-at .ensures) ∙ c .before .before .before .before .before .before .before .before .before .before .if2 .left) _ (c .before .before .before .before .before .before .before .before .before .header-of .ensures .0) (c .before .before .before .before .before .before .before .if3 .left)
-    (sym (c .before .before .before .before .before .in-range .ensures) ∙ not-false (c .before .before .before .before .before .in-range .result) (c .before .before .before .before .if4 .left)) _ (c .before .before .first-fault .ensures) ∙ c .enum-told .given .1)
+returns-5 c = accepted-by _ _ (c .before .before .before .before .before .before .before .before .before .header-of .ensures .0) (checked (c .before .before) ∙ c .enum-told .given .1)
 
 returns-6 : tie.Need-returns-6
-unfolding editionOf
-returns-6 c =
-    refused-by _ _
-    (by-records _ (c .before .before .before .before .before .before .before .before .before .before .before .before .before .if1 .left) (sym (c .before .before .before .before .before .before .before .before .before .before .before .before .u16-at .ensures) ∙ c .before .before .before .before .before .before .before .before .before .before .before .if2 .left) _ (c .before .before .before .before .before .before .before .before .before .before .header-of .ensures .0) (c .before .before .before .before .before .before .before .before .if3 .left)
-    (sym (c .before .before .before .before .before .before .in-range .ensures) ∙ not-false (c .before .before .before .before .before .before .in-range .result) (c .before .before .before .before .before .if4 .left)) _ (c .before .before .before .first-fault .ensures) ∙ c .before .r .given .1)
+returns-6 c = refused-by _ _ (checked (c .before .before .before) ∙ c .before .r .given .1)
 
 pub read-spec : {M : Type 1} → statement M
 read-spec =

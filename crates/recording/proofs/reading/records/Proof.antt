@@ -1,22 +1,30 @@
 -- `recording::reading::records` meets its contract. An accepted file's records lie within it. Assumes nothing.
 use native.Mathlib.Omega.{arith}
 use borrow.Author.Needs.{needs}
-use mathlib.Core.Path.{sym, _∙_}
+use mathlib.Core.Path.{_≡_, sym, _∙_}
+use Prim.Native.Nat.{_+_, _*_}
+use lib.ListN.{length}
+use Rattle.model.specs.declared.Reading.{Reading}
+use Rattle.model.specs.Reading.{readingOf}
 use Rattle.recording.proofs.Files.{within, the-records, no-records}
 use Rattle.recording.proofs.reading.records.Statement.{statement}
 use Rattle.recording.proofs.reading.records.Tie as tie
 
+-- the file is accepted with the header that was matched
+accepted : (c : tie.After-h) → readingOf (c .before .before .before .before .args .file .now) ≡ Reading.Accepted (c .h .given .0 .0)
+accepted c = sym (c .before .before .read .ensures) ∙ c .h .given .1
+
 mul-stop : tie.Need-mul-stop
-mul-stop c = let w = within _ _ (sym (c .before .before .before .before .read .ensures) ∙ c .before .before .h .given .1) in omega arith
+mul-stop c = omega (arith, within _ _ (accepted (c .before .before)))
 
 add-stop : tie.Need-add-stop
-add-stop c = let w = within _ _ (sym (c .before .before .before .before .read .ensures) ∙ c .before .before .h .given .1) in omega arith
+add-stop c = omega (arith, within _ _ (accepted (c .before .before)))
 
 part-result-end : tie.Need-part-result-end
-part-result-end c = let w = within _ _ (sym (c .before .before .before .before .read .ensures) ∙ c .before .before .h .given .1) in omega arith
+part-result-end c = omega (arith, within _ _ (accepted (c .before .before)))
 
 returns : tie.Need-returns
-returns c = the-records _ _ (sym (c .before .before .before .before .before .read .ensures) ∙ c .before .before .before .h .given .1)
+returns c = the-records _ _ (accepted (c .before .before .before))
 
 returns-2 : tie.Need-returns-2
 returns-2 c = no-records _ _ (sym (c .before .before .before .read .ensures) ∙ c .before .enum-told .given .1)

@@ -8,8 +8,9 @@ use Rattle.recording.proofs.writing.put_file.Tie as tie
 returns : tie.Need-returns
 returns c =
     let a = c .before .before .before .before .before .before .before .before .before .before .before .before .args in
-    copied (a .records .now) (c .before .before .before .before .before .trailer .result) (a .out .now) (c .before .before .before .before .before .before .before .before .copy-at .last .1 .0) _ (c .before .before .before .before .before .before .before .before .copy-at .ensures) (c .before .before .copy-at2 .ensures) (a .counts)
-    (c .before .before .before .before .before .trailer .ensures)
+    let made = c .before .before .before .before .before .trailer in
+    let one = c .before .before .before .before .before .before .before .before .copy-at in
+    copied (a .records .now) (made .result) (a .out .now) (one .last .1 .0) _ (one .ensures) (c .before .before .copy-at2 .ensures) (a .counts) (made .ensures)
 
 pub put-file-spec : {M : Type 1} → statement M
 put-file-spec =

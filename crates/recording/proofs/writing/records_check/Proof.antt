@@ -2,7 +2,7 @@
 use native.Mathlib.Omega.{arith}
 use borrow.Author.Needs.{needs}
 use mathlib.Core.Path.{sym, _∙_}
-use borrow.Author.Tests.{not-true, not-false}
+use Rattle.rules.proofs.Laws.{passed, failed}
 use Rattle.recording.proofs.Outputs.{ragged, beyond, by-rules}
 use Rattle.recording.proofs.writing.records_check.Statement.{statement}
 use Rattle.recording.proofs.writing.records_check.Tie as tie
@@ -11,11 +11,11 @@ returns : tie.Need-returns
 returns c = ragged _ _ (c .if1 .taken)
 
 returns-2 : tie.Need-returns-2
-returns-2 c = beyond _ _ (c .before .before .if1 .left) (sym (c .before .in-range .ensures) ∙ not-true (c .before .in-range .result) (c .if2 .taken))
+returns-2 c = beyond _ _ (c .before .before .if1 .left) (failed (c .before .in-range .ensures) (c .if2 .taken))
 
 returns-3 : tie.Need-returns-3
 returns-3 c =
-    by-rules _ _ (c .before .before .before .if1 .left) (sym (c .before .before .in-range .ensures) ∙ not-false (c .before .before .in-range .result) (c .before .if2 .left)) _
+    by-rules _ _ (c .before .before .before .if1 .left) (passed (c .before .before .in-range .ensures) (c .before .if2 .left)) _
     (c .first-fault .ensures)
 
 pub records-check-spec : {M : Type 1} → statement M

@@ -1,0 +1,146 @@
+-- The report of the answer is that of the file.
+-- Assumes nothing.
+use Prim.Native.Nat.{ℕ, _+_, _-_, _*_, _/_, _≤_, _<_}
+use mathlib.Core.Path.{_≡_, refl, sym, ap, _∙_}
+use mathlib.Core.Bool.{true, false, cond}
+use mathlib.Core.List.{List, [], _∷_, _++_}
+use native.Mathlib.Omega.{arith}
+use lib.Dec.{leb, ltb}
+use lib.ListN.{length, drop, length-append}
+use Rattle.model.specs.declared.Check.{Check}
+use Rattle.model.specs.declared.Refusal.{Refusal}
+use Rattle.model.specs.declared.Analysis.{Analysis}
+use Rattle.model.specs.declared.Reading.{Reading}
+use Rattle.model.specs.Refusals.{unless, andThen, after}
+use Rattle.model.specs.Numbers.{each}
+use Rattle.model.specs.Recording.{Recording, size, tasks}
+use Rattle.model.specs.File.{eventsOf, headerOf, recordBytes, recordingOf}
+use Rattle.model.specs.Reading.{fileCheck, readingBy, readingOf, recordsOf}
+use Rattle.model.specs.Passes.{run}
+use Rattle.model.specs.Pairs.{Entry, listed, entryNumbers}
+use Rattle.model.specs.Analysing.{workFits, listFits, workCheck, analysisCheck, done, analysisBy, analysisOf, workAfter, listAfter}
+use Rattle.model.proofs.Tests.{leb-true, le-leb, lt-ltb, le-ltb}
+use Rattle.model.proofs.Checks.{unless-passed, then-passed}
+use Rattle.model.proofs.Files.{sound, events-length, size-records}
+use Rattle.report.specs.Text.{bytes}
+use Rattle.report.specs.Output.{laid, filling, Put}
+use Rattle.report.specs.Report.{resultLine, resultText, budgetOf, reportBy, isLong, reportOf, reportedWork, reportedList}
+use Rattle.report.specs.Entries.{nthLine}
+use Rattle.report.specs.Answer.{budgetIn, tasksIn, Holds, answerText}
+use Rattle.report.proofs.Putting.{put-laid}
+use Rattle.report.proofs.Listing.{each-entry}
+
+numbers-length : (l : List Entry) → length (entryNumbers l) ≡ 3 * length l
+unfolding entryNumbers
+numbers-length [] = refl
+numbers-length (p ∷ l) = let e = numbers-length l in omega arith
+
+module _ (f : List ℕ) where
+  -- ---- an accepted file: its records, events and tasks
+
+  the-records : fileCheck f ≡ Check.Passed → recordsOf f ≡ recordBytes f (headerOf f)
+  unfolding recordsOf
+  the-records q = rw q
+
+  the-events : fileCheck f ≡ Check.Passed → length (recordsOf f) / 4 ≡ size (recordingOf f)
+  unfolding recordingOf
+  the-events q = rw (the-records q) (sym (events-length (recordBytes f (headerOf f))))
+
+  the-tasks : fileCheck f ≡ Check.Passed → tasksIn (readingOf f) ≡ tasks (recordingOf f)
+  unfolding readingOf recordingOf
+  the-tasks q = rw q
+
+  the-budget : fileCheck f ≡ Check.Passed → budgetIn (recordsOf f) ≡ budgetOf (recordingOf f)
+  unfolding budgetIn
+  the-budget q =
+      let s = sound f q in
+      let few : size (recordingOf f) ≤ 1024 = omega (arith, size-records f s, s .range .few-records) in
+      rw (the-events q, le-leb (size (recordingOf f)) 1024 few)
+
+  -- ---- the budget of a refused file does not matter
+
+  alike : {A : Type 0} (g : ℕ → A) (c : Check) → fileCheck f ≡ c → ((r : Refusal) → fileCheck f ≡ Check.Failed r → g (budgetIn (recordsOf f)) ≡ g (budgetOf (recordingOf f)))
+      → g (budgetIn (recordsOf f)) ≡ g (budgetOf (recordingOf f))
+  alike g Check.Passed q h = ap g (the-budget q)
+  alike g (Check.Failed r) q h = h r q
+
+  pub same-answer : (work list : List ℕ) → analysisOf f (budgetIn (recordsOf f)) work list ≡ analysisOf f (budgetOf (recordingOf f)) work list
+  unfolding analysisOf analysisCheck workCheck
+  same-answer work list = alike (λ b. analysisOf f b work list) (fileCheck f) refl (λ r q. rw q)
+
+  pub same-work : (work : List ℕ) → workAfter f (budgetIn (recordsOf f)) work ≡ workAfter f (budgetOf (recordingOf f)) work
+  unfolding workAfter workCheck
+  same-work work = alike (λ b. workAfter f b work) (fileCheck f) refl (λ r q. rw q)
+
+  pub same-list : (work list : List ℕ) → listAfter f (budgetIn (recordsOf f)) work list ≡ listAfter f (budgetOf (recordingOf f)) work list
+  unfolding listAfter analysisCheck workCheck
+  same-list work list = alike (λ b. listAfter f b work list) (fileCheck f) refl (λ r q. rw q)
+
+  -- ---- the answer
+
+  module _ (b : ℕ) (work list : List ℕ) where
+    passed : analysisCheck f b work list ≡ Check.Passed → (fileCheck f ≡ Check.Passed) × (3 * length (listed (recordingOf f) b) ≤ length list)
+    unfolding analysisCheck workCheck
+    passed q =
+        let (w, l) = then-passed _ _ q in
+        let (p, x) = then-passed _ _ w in
+        let (fits, y) = unless-passed _ _ _ l in
+        (p, leb-true _ _ fits)
+
+    pub held : (c : Check) → analysisCheck f b work list ≡ c → Holds (analysisOf f b work list) (listAfter f b work list)
+    unfolding analysisOf listAfter
+    held Check.Passed q =
+        let l = listed (recordingOf f) b in
+        rw q (omega (arith, length-append (entryNumbers l) (drop (3 * length l) list), numbers-length l))
+    held (Check.Failed r) q = rw q tt
+
+    pub the-answer : (c : Check) → analysisCheck f b work list ≡ c
+        → answerText (recordsOf f) (tasksIn (readingOf f)) (analysisOf f b work list) (listAfter f b work list) ≡ reportBy (recordingOf f) b c
+    unfolding answerText analysisOf listAfter resultText recordingOf
+    the-answer Check.Passed q =
+        let p = passed q .0 in
+        let E = recordingOf f in
+        let l = listed E b in
+        rw (q, the-events p, the-tasks p, the-records p)
+        (ap (λ (x : List ℕ). resultLine (size E) (tasks E) (run E b .passes) (run E b .settled) (length l) ++ x) (each-entry (recordBytes f (headerOf f)) (headerOf f .counts) l (drop (3 * length l) list)))
+    the-answer (Check.Failed r) q = rw q
+
+-- ---- what the program prints, and what it leaves
+
+-- the four parts of the contract
+abbrev pub Printed : (f work list out work′ list′ out′ : List ℕ) (r : ℕ) → Type 0
+Printed f work list out work′ list′ out′ r =
+    (r ≡ filling (reportOf f work list) out) × ((out′ ≡ laid (reportOf f work list) out) × ((work′ ≡ reportedWork f work) × (list′ ≡ reportedList f work list)))
+
+pub long-printed : (f work list out out′ : List ℕ) (r : ℕ) → 16384 < length f → Put out out′ 0 (bytes "too long\n") r → Printed f work list out work list out′ r
+unfolding isLong reportOf reportedWork reportedList
+long-printed f work list out out′ r h p =
+    let (o, n) = put-laid out out′ (bytes "too long\n") r p in rw (lt-ltb 16384 (length f) h) (n, (o, (refl, refl)))
+
+-- a file that is not too long: what the calls gave
+pub record Called (f work list s : List ℕ) (b t : ℕ) (a : Analysis) (work′ list′ : List ℕ) : Type 0 where
+  pub records : s ≡ recordsOf f
+  pub budget : b ≡ budgetIn s
+  pub tasks : t ≡ tasksIn (readingOf f)
+  pub answer : a ≡ analysisOf f b work list
+  pub work-left : work′ ≡ workAfter f b work
+  pub list-left : list′ ≡ listAfter f b work list
+
+module _ (f work list s : List ℕ) (b t : ℕ) (a : Analysis) (work′ list′ : List ℕ) (c : Called f work list s b t a work′ list′) where
+  the-call : b ≡ budgetIn (recordsOf f)
+  the-call = c .budget ∙ ap budgetIn (c .records)
+
+  pub called-holds : Holds a list′
+  called-holds = rw (c .answer, c .list-left) (held f b work list (analysisCheck f b work list) refl)
+
+  the-text : answerText s t a list′ ≡ reportBy (recordingOf f) (budgetOf (recordingOf f)) (analysisCheck f (budgetOf (recordingOf f)) work list)
+  the-text =
+      rw (c .records, c .tasks, c .answer, c .list-left, the-call, same-answer f work list, same-list f work list)
+      (the-answer f (budgetOf (recordingOf f)) work list (analysisCheck f (budgetOf (recordingOf f)) work list) refl)
+
+  pub short-printed : (out out′ : List ℕ) (r : ℕ) → length f ≤ 16384 → Put out out′ 0 (answerText s t a list′) r → Printed f work list out work′ list′ out′ r
+  unfolding isLong reportOf reportedWork reportedList
+  short-printed out out′ r h p =
+      let (o, n) = put-laid out out′ (answerText s t a list′) r p in
+      rw (le-ltb 16384 (length f) h, sym the-text)
+      (n, (o, (c .work-left ∙ rw the-call (same-work f work), c .list-left ∙ rw the-call (same-list f work list))))

@@ -1,0 +1,21 @@
+-- A text in a lent output. What does not fit is left off, and what the text does not reach is kept.
+-- Assumes nothing.
+use Prim.Native.Nat.{ℕ, _+_, _≤_, min}
+use mathlib.Core.Path.{_≡_}
+use mathlib.Core.List.{List, _++_}
+use lib.ListN.{length, take, drop}
+use lib.Seq.{sets}
+
+-- the output with the text at its start
+unfoldable pub laid : List ℕ → List ℕ → List ℕ
+laid text out = take (length out) text ++ drop (length text) out
+
+-- how many bytes of it the text fills
+unfoldable pub filling : List ℕ → List ℕ → ℕ
+filling text out = min (length text) (length out)
+
+-- putting the text at a place of an output turns old into new, and the next place is next
+pub record Put (old new : List ℕ) (at : ℕ) (text : List ℕ) (next : ℕ) : Type 0 where
+  pub bytes : new ≡ sets old at text
+  pub place : next ≡ min (at + length text) (length old)
+  pub within : next ≤ length new

@@ -1,0 +1,33 @@
+-- `rules::join_kept` meets its contract. Each return rewrites the definition by the tests and the calls that led to it. Assumes nothing.
+use native.Mathlib.Omega.{arith}
+use borrow.Author.Needs.{needs}
+use Prim.Native.Nat.{_<_}
+use borrow.Author.Tests.{eq-eqb, ne-eqb, lt-ltb}
+use Rattle.rules.proofs.join_kept.Statement.{statement}
+use Rattle.rules.proofs.join_kept.Tie as tie
+
+returns : tie.Need-returns
+returns c = simp (ne-eqb _ _ (c .if1 .taken))
+
+returns-2 : tie.Need-returns-2
+returns-2 c = simp (eq-eqb _ _ (c .before .before .before .if1 .left), eq-eqb _ _ (c .if2 .taken))
+
+returns-3 : tie.Need-returns-3
+returns-3 c = simp (eq-eqb _ _ (c .before .before .before .before .before .if1 .left), ne-eqb _ _ (c .before .before .if2 .left), ← c .before .count-on .ensures .0, c .if3 .taken)
+
+returns-4 : tie.Need-returns-4
+returns-4 c =
+    let h : 0 < c .before .before .count-on .result = omega arith in
+    simp (eq-eqb _ _ (c .before .before .before .before .before .before .if1 .left), ne-eqb _ _ (c .before .before .before .if2 .left), ← c .before .before .count-on .ensures .0, lt-ltb _ _ h, ← c .count-on2 .ensures .0)
+
+pub join-kept-spec : {M : Type 1} → statement M
+join-kept-spec =
+    tie.close
+    (tie.spec
+    returns
+    (λ c. search needs)
+    returns-2
+    (λ c κs. omega arith)
+    returns-3
+    (λ c κs. omega arith)
+    returns-4)

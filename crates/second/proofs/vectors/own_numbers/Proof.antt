@@ -1,0 +1,30 @@
+-- `second::vectors::own_numbers` is safe and ends. Lengths are kept. The measure is what is left of the range. Assumes nothing.
+use mathlib.Core.Path.{_≡_}
+use lib.ListN.{length}
+use Prim.Native.Nat.{_-_}
+use native.Mathlib.Omega.{arith}
+use Rattle.second.proofs.vectors.own_numbers.Statement.{statement}
+use Rattle.second.proofs.vectors.own_numbers.Tie as tie
+
+abbrev Inv-loop : tie.InvT-loop
+Inv-loop events n v₀ e₀ v e = length v ≡ length v₀
+
+abbrev μ-loop : tie.MeasureT-loop
+μ-loop events n v₀ e₀ v e = n - e
+
+pub own-numbers-spec : {M : Type 1} → statement M
+own-numbers-spec =
+    tie.close
+    (tie.spec
+    Inv-loop
+    μ-loop
+    (λ c. omega arith)
+    (λ c κs. tt)
+    (λ c κs. tt)
+    (λ c κs. tt)
+    (λ c κs. tt)
+    (λ c. omega arith)
+    (λ c. omega arith)
+    (λ c. omega arith)
+    (λ c. omega arith)
+    (λ c. tt))
