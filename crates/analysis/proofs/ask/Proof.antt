@@ -1,5 +1,5 @@
 -- ask meets its contract: an accepted file is asked about, another's refusal is handed on. Assumes nothing.
-use mathlib.Core.Path.{_≡_, sym, _∙_}
+use mathlib.Core.Path.{sym, _∙_}
 use borrow.Author.Needs.{needs}
 use Rattle.analysis.proofs.Accepted.{refused-by}
 use Rattle.analysis.proofs.Answers.{asked-file}
