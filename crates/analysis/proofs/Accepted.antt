@@ -7,31 +7,22 @@ use native.Mathlib.Omega.{arith}
 use lib.ListN.{length}
 use Rattle.model.specs.declared.Counts.{Counts}
 use Rattle.model.specs.declared.Header.{Header}
-use Rattle.model.specs.declared.Refusal.{Refusal}
 use Rattle.model.specs.declared.Check.{Check}
 use Rattle.model.specs.declared.Reading.{Reading}
 use Rattle.model.specs.Recording.{size, Accepted}
 use Rattle.model.specs.File.{headerOf, recordBytes, recordingBy, recordingOf}
-use Rattle.model.specs.Reading.{fileCheck, readingBy, readingOf, recordsOf}
+use Rattle.model.specs.Reading.{fileCheck, readingOf, recordsOf}
 use Rattle.model.proofs.Accept.{task-inside}
-use Rattle.model.proofs.Files.{sound, reading-passed, bytes-length, size-records}
+use Rattle.model.proofs.Files.{sound, bytes-length, size-records}
+use Rattle.recording.proofs.Files.{accepted-is}
 use Rattle.analysis.specs.Lent.{Ready}
-
-pub refused-by : (f : List ℕ) (r : Refusal) → readingOf f ≡ Reading.Refused r → fileCheck f ≡ Check.Failed r
-unfolding readingOf
-refused-by f r q = go (fileCheck f) q
-  where
-    go : (c : Check) → readingBy (headerOf f) c ≡ Reading.Refused r → c ≡ Check.Failed r
-    go Check.Passed q = let z : _≡_ {A = ℕ} 0 1 = cc in absurd (omega arith)
-    go (Check.Failed s) q = cc
 
 module _ (f : List ℕ) (h : Header) (q : readingOf f ≡ Reading.Accepted h) where
   pub passed : fileCheck f ≡ Check.Passed
-  passed = reading-passed f h q
+  passed = accepted-is f h q .1
 
   header : h ≡ headerOf f
-  unfolding readingOf
-  header = let e : readingBy (headerOf f) (fileCheck f) ≡ Reading.Accepted (headerOf f) = rw passed in cc
+  header = accepted-is f h q .0
 
   bytes : recordsOf f ≡ recordBytes f (headerOf f)
   unfolding recordsOf

@@ -1,23 +1,21 @@
 -- What analysing a file and a question about two events answer and leave, case by case.
 -- Assumes nothing.
 use mathlib.Core.Path.{_≡_, refl, sym, ap, _∙_}
-use mathlib.Core.Bool.{Bool, true, false, not, _&&_}
+use mathlib.Core.Bool.{Bool, true, false}
 use mathlib.Core.List.{List, _++_}
 use Prim.Native.Nat.{ℕ, _*_}
 use lib.ListN.{length, drop}
 use Rattle.model.specs.declared.Refusal.{Refusal}
 use Rattle.model.specs.declared.Check.{Check}
-use Rattle.model.specs.declared.Reading.{Reading}
 use Rattle.model.specs.declared.Analysis.{Analysis}
 use Rattle.model.specs.declared.Answer.{Answer}
 use Rattle.model.specs.declared.Relation.{Relation}
-use Rattle.model.specs.Refusals.{unless, andThen, after}
-use Rattle.model.specs.Recording.{Recording, size}
-use Rattle.model.specs.File.{headerOf, recordingOf}
-use Rattle.model.specs.Reading.{fileCheck, readingBy, readingOf}
+use Rattle.model.specs.Refusals.{after}
+use Rattle.model.specs.File.{recordingOf}
+use Rattle.model.specs.Reading.{fileCheck}
 use Rattle.model.specs.Passes.{passesMade, isSettled}
 use Rattle.model.specs.Pairs.{listed, entryNumbers}
-use Rattle.model.specs.Analysing.{workFits, filled, listFits, workCheck, analysisCheck, analysisBy, analysisOf, workAfter, listAfter}
+use Rattle.model.specs.Analysing.{workFits, filled, workCheck, analysisCheck, analysisBy, analysisOf, workAfter, listAfter}
 use Rattle.model.specs.Question.{relationOf, twoEvents, questionCheck, answerBy, answerOf, askedWork}
 use Rattle.pairs.specs.Lent.{Outcome}
 use Rattle.analysis.specs.Lent.{Analysed, Asked}

@@ -1,9 +1,9 @@
 -- The cases of an accepted file, as its records and the lent numbers show them.
 -- Assumes nothing.
-use mathlib.Core.Path.{_≡_, refl, sym, ap, ap₂, subst, _∙_}
-use mathlib.Core.Bool.{Bool, true, false, not}
+use mathlib.Core.Path.{_≡_, sym, ap, ap₂, subst, _∙_}
+use mathlib.Core.Bool.{Bool, true, false, cond, not}
 use mathlib.Core.List.{List}
-use Prim.Native.Nat.{ℕ, _*_, _≤_, _<_}
+use Prim.Native.Nat.{ℕ, _*_}
 use lib.ListN.{length}
 use lib.Dec.{eqb, ltb}
 use Rattle.model.specs.declared.Header.{Header}
@@ -63,16 +63,13 @@ module _ (f : List ℕ) (h : Header) (q : readingOf f ≡ Reading.Accepted h) (s
       listing t o =
           subst (λ (es : List Entry). Outcome es l l′ t n) (ap₂ (entries E) safe behind ∙ ap (λ (F : Recording). listed F b) same) o
 
-      pub short-list : (t : Bool) → t ≡ false → Outcome (entries E (safeIn s (h .counts) w′) (recordedIn s (h .counts) w′)) l l′ t n
-          → Analysed f b w l (Analysis.Refused (Refusal.List n)) w′ l′
-      short-list t z o =
-          refused-list f b w l (passed f h q) (fits true p) w′ l′ n now-filled (rw z at (listing t o))
-
-      pub all-well : (t : Bool) → t ≡ true → Outcome (entries E (safeIn s (h .counts) w′) (recordedIn s (h .counts) w′)) l l′ t n
-          → (m : ℕ) (x : Bool) → m ≡ passesMade E b → x ≡ isSettled E b → Analysed f b w l (Analysis.Done m x n) w′ l′
-      all-well t z o m x u v =
-          finished f b w l (passed f h q) (fits true p) w′ l′ m n x now-filled (rw z at (listing t o)) (u ∙ ap (λ (F : Recording). passesMade F b) same)
+      -- done where the entries fit, and else 10
+      pub ended : (m : ℕ) (x : Bool) → m ≡ passesMade E b → x ≡ isSettled E b → {y : Bool} → Outcome (entries E (safeIn s (h .counts) w′) (recordedIn s (h .counts) w′)) l l′ y n
+          → (t : Bool) → y ≡ t → Analysed f b w l (cond t (Analysis.Done m x n) (Analysis.Refused (Refusal.List n))) w′ l′
+      ended m x u v o true z =
+          finished f b w l (passed f h q) (fits true p) w′ l′ m n x now-filled (listing true (rw z at o)) (u ∙ ap (λ (F : Recording). passesMade F b) same)
           (v ∙ ap (λ (F : Recording). isSettled F b) same)
+      ended m x u v o false z = refused-list f b w l (passed f h q) (fits true p) w′ l′ n now-filled (listing false (rw z at o))
 
   -- ---- the question
 

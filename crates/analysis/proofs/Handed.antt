@@ -1,24 +1,21 @@
 -- What analysing hands back is what the promises speak of: it answers so only where every check passed.
 -- Assumes nothing.
-use mathlib.Core.Path.{_≡_, refl, sym, ap, _∙_}
+use mathlib.Core.Path.{_≡_, refl, ap, _∙_}
 use mathlib.Core.Bool.{Bool}
-use mathlib.Core.List.{List, _++_}
-use Prim.Native.Nat.{ℕ, _*_}
+use mathlib.Core.List.{List}
+use Prim.Native.Nat.{ℕ}
 use native.Mathlib.Omega.{arith}
-use lib.ListN.{length, drop}
+use lib.ListN.{length}
 use Rattle.model.specs.declared.Check.{Check}
-use Rattle.model.specs.declared.Reading.{Reading}
 use Rattle.model.specs.declared.Analysis.{Analysis}
-use Rattle.model.specs.Refusals.{after}
 use Rattle.model.specs.File.{headerOf, recordingOf}
 use Rattle.model.specs.Reading.{fileCheck, readingOf}
 use Rattle.model.specs.Passes.{passesMade, isSettled}
-use Rattle.model.specs.Pairs.{listed, entryNumbers}
+use Rattle.model.specs.Pairs.{listed}
 use Rattle.model.specs.Analysing.{workCheck, analysisCheck, analysisBy, analysisOf, listAfter}
 use Rattle.model.proofs.Checks.{then-passed}
 use Rattle.model.proofs.Promise.{promise}
-use Rattle.analysis.specs.Lent.{Analysed}
-use Rattle.analysis.specs.Handed.{Handed, HandedBack}
+use Rattle.analysis.specs.Handed.{HandedBack}
 
 -- an answer with a list is given where every check passed
 all-passed : (f : List ℕ) (b m : ℕ) (s : Bool) (n : ℕ) (k : Check) → Analysis.Done m s n ≡ analysisBy (recordingOf f) b k → k ≡ Check.Passed

@@ -1,8 +1,6 @@
 // Analysing a recording file, and questions about two of its events.
 ghost use mathlib.Core.Path.{_≡_};
-ghost use Prim.Native.Nat.{_*_, _≤_};
-ghost use lib.ListN.{length};
-ghost use Rattle.model.specs.Recording.{size};
+ghost use Prim.Native.Nat.{_≤_};
 ghost use Rattle.model.specs.File.{recordingBy};
 ghost use Rattle.model.specs.Reading.{readingOf};
 ghost use Rattle.model.specs.Passes.{passesMade, isSettled};

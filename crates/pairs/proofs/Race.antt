@@ -1,5 +1,5 @@
 -- Race pairs and their marks, and the parts that the list is made of. Assumes nothing.
-use mathlib.Core.Path.{_≡_, refl, sym, ap, _∙_}
+use mathlib.Core.Path.{_≡_, refl, ap, _∙_}
 use mathlib.Core.Bool.{Bool, true, false, cond, _&&_}
 use mathlib.Core.List.{List, [], _∷_}
 use Prim.Native.Nat.{ℕ, _+_, _*_, _≤_, _<_}
@@ -101,12 +101,16 @@ module _ (E : Recording) (X R : Vectors) where
   list-most h = each-most (cellEntries E X R) 1048576 (λ c. cell-most c h) (cells E)
 
 -- what was counted, whatever vectors give the marks, is as few
-module _ (E : Recording) (X : Vectors) (n : ℕ) (h : size E ≤ 1024) where
-  pub row-few : (a : ℕ) → ((R : Vectors) → n ≡ length (entriesOf E X R a)) → n ≤ 1024
-  row-few a e = omega (arith, e [], row-most E X [] a)
+module _ (E : Recording) (X : Vectors) (n : ℕ) where
+  pub pair-few : (a b : ℕ) → ((R : Vectors) → n ≡ length (pairAt E X R a b)) → n ≤ 1
+  pair-few a b e = omega (arith, e [], pair-most E X [] a b)
 
-  pub cell-few : (c : ℕ) → ((R : Vectors) → n ≡ length (cellEntries E X R c)) → n ≤ 1048576
-  cell-few c e = omega (arith, e [], cell-most E X [] c h)
+  module _ (h : size E ≤ 1024) where
+    pub row-few : (c a : ℕ) → ((R : Vectors) → n ≡ length (rowAt E X R c a)) → n ≤ 1024
+    row-few c a e = omega (arith, e [], row-at-most E X [] c a)
 
-  pub list-few : cells E ≤ 1024 → ((R : Vectors) → n ≡ length (entries E X R)) → n ≤ 1073741824
-  list-few k e = omega (arith, e [], list-most E X [] h)
+    pub cell-few : (c : ℕ) → ((R : Vectors) → n ≡ length (cellEntries E X R c)) → n ≤ 1048576
+    cell-few c e = omega (arith, e [], cell-most E X [] c h)
+
+    pub list-few : cells E ≤ 1024 → ((R : Vectors) → n ≡ length (entries E X R)) → n ≤ 1073741824
+    list-few k e = omega (arith, e [], list-most E X [] h)

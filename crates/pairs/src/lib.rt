@@ -1,6 +1,6 @@
 // Conflicts, race pairs and their marks, and the list, over record bytes and lent vectors.
 ghost use mathlib.Core.Path.{_≡_};
-ghost use mathlib.Core.List.{[], _∷_, _++_};
+ghost use mathlib.Core.List.{[], _∷_};
 ghost use Prim.Native.Nat.{_+_, _*_, _≤_, _<_};
 ghost use mathlib.Core.Bool.{_&&_};
 ghost use lib.Dec.{eqb};
@@ -86,7 +86,20 @@ fn mark(recs: &[u8], counts: Counts, at: &[u16], recorded: &[u16], a: usize, b: 
     }
 }
 
-// How many entries have the lower event a. Their marks do not matter.
+// How many entries a and b have: 1 where they are a race pair. Its mark does not matter.
+fn count_pair(recs: &[u8], counts: Counts, at: &[u16], safe: &[u16], a: usize, b: usize) -> usize
+    requires { ⌜ Placed (now recs) counts (now at) × Fitting (now recs) counts (now safe) ⌝ }
+    requires { ⌜ (a < b) × Numbered (now recs) b ⌝ }
+    ensures { λ r. ⌜ ((R : Vectors) → r ≡ length (pairAt (recordingBy (now (recs .entry)) counts) (vectorsIn (now (recs .entry)) counts (now (safe .entry))) R a b)) ⌝ }
+{
+    if race_pair(recs, counts, at, safe, a, b) {
+        1
+    } else {
+        0
+    }
+}
+
+// How many entries have the lower event a.
 fn count_row(recs: &[u8], counts: Counts, at: &[u16], safe: &[u16], a: usize) -> usize
     requires { ⌜ Placed (now recs) counts (now at) × Fitting (now recs) counts (now safe) × Numbered (now recs) a ⌝ }
     ensures { λ r. ⌜ ((R : Vectors) → r ≡ length (entriesOf (recordingBy (now (recs .entry)) counts) (vectorsIn (now (recs .entry)) counts (now (safe .entry))) R a)) ⌝ }
@@ -95,15 +108,24 @@ fn count_row(recs: &[u8], counts: Counts, at: &[u16], safe: &[u16], a: usize) ->
     let mut pairs: usize = 0;
     let mut b = a + 1;
     while b < n {
-        if race_pair(recs, counts, at, safe, a, b) {
-            pairs += 1;
-        }
+        pairs += count_pair(recs, counts, at, safe, a, b);
         b += 1;
     }
     pairs
 }
 
-// How many entries the cell has. Only an access starts a row.
+// The same where a accesses the cell; else 0. Only an access starts a row.
+fn count_access(recs: &[u8], counts: Counts, at: &[u16], safe: &[u16], cell: u16, a: usize) -> usize
+    requires { ⌜ Placed (now recs) counts (now at) × Fitting (now recs) counts (now safe) × Numbered (now recs) a ⌝ }
+    ensures { λ r. ⌜ ((R : Vectors) → r ≡ length (rowAt (recordingBy (now (recs .entry)) counts) (vectorsIn (now (recs .entry)) counts (now (safe .entry))) R cell a)) ⌝ }
+{
+    if !accesses(recs, a, cell) {
+        return 0;
+    }
+    count_row(recs, counts, at, safe, a)
+}
+
+// How many entries the cell has.
 fn count_cell(recs: &[u8], counts: Counts, at: &[u16], safe: &[u16], cell: u16) -> usize
     requires { ⌜ Placed (now recs) counts (now at) × Fitting (now recs) counts (now safe) ⌝ }
     ensures { λ r. ⌜ ((R : Vectors) → r ≡ length (cellEntries (recordingBy (now (recs .entry)) counts) (vectorsIn (now (recs .entry)) counts (now (safe .entry))) R cell)) ⌝ }
@@ -112,9 +134,7 @@ fn count_cell(recs: &[u8], counts: Counts, at: &[u16], safe: &[u16], cell: u16) 
     let mut pairs: usize = 0;
     let mut a = 0;
     while a < n {
-        if accesses(recs, a, cell) {
-            pairs += count_row(recs, counts, at, safe, a);
-        }
+        pairs += count_access(recs, counts, at, safe, cell, a);
         a += 1;
     }
     pairs

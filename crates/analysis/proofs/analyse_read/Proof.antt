@@ -1,12 +1,14 @@
 -- analyse_read meets its contract: each of its answers is one of the cases. Assumes nothing.
-use mathlib.Core.Path.{_≡_, sym, ap, _∙_}
-use Prim.Native.Nat.{_*_, _≤_}
+use mathlib.Core.Path.{_≡_, sym, _∙_}
+use mathlib.Core.Bool.{Bool, true, false, cond}
 use native.Mathlib.Omega.{arith}
-use lib.ListN.{length}
 use borrow.Author.Needs.{needs}
 use borrow.Author.Tests.{not-true, not-false}
+use Rattle.model.specs.declared.Refusal.{Refusal}
+use Rattle.model.specs.declared.Analysis.{Analysis}
+use Rattle.analysis.specs.Lent.{Analysed}
 use Rattle.analysis.proofs.Accepted.{ready}
-use Rattle.analysis.proofs.Cases.{roomy, short-work, short-list, all-well}
+use Rattle.analysis.proofs.Cases.{roomy, short-work, ended}
 use Rattle.analysis.proofs.analyse_read.Statement.{statement}
 use Rattle.analysis.proofs.analyse_read.Tie as tie
 
@@ -38,26 +40,33 @@ list-pairs-requires c κs =
     let room = roomy (s .args .file .now) (s .args .header) (s .pre) _ (r .records .ensures) 0 (s .args .work .now) (sym (t .before .work-fits .ensures) ∙ not-false _ (t .if1 .left)) in
     (ready (s .args .file .now) (s .args .header) (s .pre) _ (r .records .ensures), omega (arith, room, k .fill .kept .1 .1 .1 .0))
 
+-- the answer, by whether the list had room
+module _ (c : tie.After-list-pairs) where
+  abbrev k : tie.After-fill
+  k = c .before .before .before .before .before
+
+  abbrev t : tie.Else1
+  t = k .before .before
+
+  abbrev r : tie.After-records
+  r = t .before .before .before .before
+
+  abbrev s : tie.Start
+  s = r .before .before .before .before
+
+  the-end : (y : Bool) → c .list-pairs .result .fits ≡ y
+      → Analysed (s .args .file .now) (s .args .budget) (s .args .work .now) (s .args .list .now)
+      (cond y (Analysis.Done (k .fill .result .passes) (k .fill .result .settled) (c .list-pairs .result .pairs)) (Analysis.Refused (Refusal.List (c .list-pairs .result .pairs))))
+      (k .fill .last .1 .1 .1 .0) (c .list-pairs .last .1 .1 .1 .0)
+  the-end =
+      ended (s .args .file .now) (s .args .header) (s .pre) _ (r .records .ensures) (s .args .budget) (s .args .work .now)
+      (sym (t .before .work-fits .ensures) ∙ not-false _ (t .if1 .left)) _ (k .fill .ensures .1) _ _ _ _ _ (k .fill .ensures .0 .0) (k .fill .ensures .0 .1) (c .list-pairs .ensures)
+
 returns-2 : tie.Need-returns-2
-returns-2 c =
-    let k = c .before .before .before .before .before .before .before .before .before in
-    let t = k .before .before in
-    let r = t .before .before .before .before in
-    let s = r .before .before .before .before in
-    let l = c .before .before .before .before .list-pairs in
-    short-list (s .args .file .now) (s .args .header) (s .pre) _ (r .records .ensures) (s .args .budget) (s .args .work .now)
-    (sym (t .before .work-fits .ensures) ∙ not-false _ (t .if1 .left)) _ (k .fill .ensures .1) _ _ _ (l .result .fits) (not-true _ (c .if2 .taken)) (l .ensures)
+returns-2 c = the-end (c .before .before .before .before) false (not-true _ (c .if2 .taken))
 
 returns-3 : tie.Need-returns-3
-returns-3 c =
-    let k = c .before .before .before .before .before .before .before .before .before in
-    let t = k .before .before in
-    let r = t .before .before .before .before in
-    let s = r .before .before .before .before in
-    let l = c .before .before .before .before .list-pairs in
-    all-well (s .args .file .now) (s .args .header) (s .pre) _ (r .records .ensures) (s .args .budget) (s .args .work .now)
-    (sym (t .before .work-fits .ensures) ∙ not-false _ (t .if1 .left)) _ (k .fill .ensures .1) _ _ _ (l .result .fits) (not-false _ (c .if2 .left)) (l .ensures)
-    _ _ (k .fill .ensures .0 .0) (k .fill .ensures .0 .1)
+returns-3 c = the-end (c .before .before .before .before) true (not-false _ (c .if2 .left))
 
 pub analyse-read-spec : {M : Type 1} → statement M
 analyse-read-spec =

@@ -1,10 +1,6 @@
 -- work_fits meets its contract. Assumes nothing.
-use mathlib.Core.Path.{ap}
-use Prim.Native.Nat.{ℕ, _*_}
 use native.Mathlib.Omega.{arith}
 use borrow.Author.Needs.{needs}
-use lib.Dec.{leb}
-use lib.ListN.{length}
 use Rattle.analysis.proofs.work_fits.Statement.{statement}
 use Rattle.analysis.proofs.work_fits.Tie as tie
 

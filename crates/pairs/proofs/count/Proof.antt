@@ -1,6 +1,6 @@
 -- count meets its contract: counted so far are the entries of the cells below `cell`. Assumes nothing.
 use mathlib.Core.Path.{_≡_, refl}
-use Prim.Native.Nat.{_*_, _-_, _≤_, _<_}
+use Prim.Native.Nat.{_*_, _-_, _≤_}
 use native.Mathlib.Omega.{arith}
 use Rattle.model.specs.File.{recordingBy}
 use Rattle.model.specs.Pairs.{cellEntries, entries}

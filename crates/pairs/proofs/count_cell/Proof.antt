@@ -1,6 +1,5 @@
 -- count_cell meets its contract: counted so far are the rows of the events below a. Assumes nothing.
-use mathlib.Core.Path.{_≡_, sym, ap, _∙_}
-use mathlib.Core.Logic.{⊎-elim}
+use mathlib.Core.Path.{_≡_}
 use Prim.Native.Nat.{_*_, _-_, _≤_}
 use native.Mathlib.Omega.{arith}
 use lib.ListN.{length}
@@ -8,7 +7,7 @@ use Rattle.model.specs.File.{eventsOf, recordingBy}
 use Rattle.model.specs.Pairs.{cellEntries}
 use Rattle.passes.specs.Lent.{vectorsIn}
 use Rattle.pairs.specs.Lent.{rowAt}
-use Rattle.pairs.proofs.Race.{Counted, count-none, count-more, count-all, row-hit, row-miss, row-few}
+use Rattle.pairs.proofs.Race.{Counted, count-none, count-more, count-all, row-few}
 use Rattle.pairs.proofs.count_cell.Statement.{statement}
 use Rattle.pairs.proofs.count_cell.Tie as tie
 
@@ -25,30 +24,25 @@ abbrev μ-loop : tie.MeasureT-loop
 loop-holds : tie.Need-loop-holds Inv-loop μ-loop
 loop-holds c = (omega arith, omega arith, omega arith, count-none _)
 
-count-row-requires : tie.Need-count-row-requires Inv-loop μ-loop
-count-row-requires c κs =
-    let s = c .before .before .before .before .before .before .before in
+count-access-requires : tie.Need-count-access-requires Inv-loop μ-loop
+count-access-requires c κs =
+    let s = c .before .before .before .before .before in
     (s .pre .0, s .pre .1, omega arith)
 
-add-pairs : tie.Need-add-pairs Inv-loop μ-loop
-add-pairs c =
-    let s = c .before .before .before .before .before .before .before .before in
-    omega (arith, row-few _ _ _ (s .pre .0 .records .few) _ (c .count-row .ensures))
+few : (c : tie.After-count-access Inv-loop μ-loop) → c .count-access .result ≤ 1024
+few c =
+    let s = c .before .before .before .before .before .before in
+    let E = recordingBy (s .args .recs .now) (s .args .counts) in
+    let X = vectorsIn (s .args .recs .now) (s .args .counts) (s .args .safe .now) in
+    row-few E X _ (s .pre .0 .records .few) (s .args .cell) (c .before .before .loop .a) (c .count-access .ensures)
 
 loop-again : tie.Need-loop-again Inv-loop μ-loop
 loop-again c =
-    let s = c .before .before .before .before .before .before .before in
-    let k = c .before .before .before .loop in
+    let s = c .before .before .before .before .before .before in
     let E = recordingBy (s .args .recs .now) (s .args .counts) in
     let X = vectorsIn (s .args .recs .now) (s .args .counts) (s .args .safe .now) in
-    let r = c .before .accesses .ensures in
-    let more = count-more (λ R. rowAt E X R (s .args .cell)) (k .a) (k .pairs) in
-    ⊎-elim
-    (λ w.
-    let few = row-few E X _ (s .pre .0 .records .few) _ (w .1 .ensures) in
-    (omega arith, omega arith, omega (arith, few, w .2), more (w .1 .result) (c .if1 .pairs) (k .inv .3) (λ R. w .1 .ensures R ∙ sym (ap length (row-hit E X R (s .args .cell) (k .a) (sym r ∙ w .0 .taken)))) (w .2)))
-    (λ w. (omega arith, omega arith, omega arith, more 0 (c .if1 .pairs) (k .inv .3) (λ R. sym (ap length (row-miss E X R (s .args .cell) (k .a) (sym r ∙ w .0 .left)))) (omega arith)))
-    (c .if1 .came)
+    let k = c .before .before .loop in
+    (omega arith, omega arith, omega (arith, few c), count-more (λ R. rowAt E X R (s .args .cell)) (k .a) (k .pairs) (c .count-access .result) _ (k .inv .3) (c .count-access .ensures) (omega arith))
 
 returns : tie.Need-returns Inv-loop μ-loop
 unfolding cellEntries
@@ -61,9 +55,8 @@ count-cell-spec =
     Inv-loop
     μ-loop
     loop-holds
-    (λ c κs. omega arith)
-    count-row-requires
-    add-pairs
+    count-access-requires
+    (λ c. omega (arith, few c))
     (λ c. omega arith)
     (λ c. omega arith)
     loop-again

@@ -4,10 +4,8 @@ use Prim.Native.Nat.{_-_, _≤_}
 use native.Mathlib.Omega.{arith}
 use lib.ListN.{length}
 use Rattle.model.specs.Numbers.{each}
-use Rattle.model.specs.File.{recordingBy}
 use Rattle.model.specs.Pairs.{cellEntries, entries}
-use Rattle.passes.specs.Lent.{vectorsIn}
-use Rattle.pairs.specs.Lent.{Stored}
+use Rattle.pairs.specs.Lent.{over, Stored}
 use Rattle.pairs.proofs.Stores.{stored-none, stored-more, stored-room, stored-all}
 use Rattle.pairs.proofs.list_all.Statement.{statement}
 use Rattle.pairs.proofs.list_all.Tie as tie
@@ -18,7 +16,7 @@ Inv-loop recs counts at safe recorded out₀ p cells next₀ cell₀ out next ce
     × (cells ≡ counts .cells)
     × (cells ≤ 1024)
     × (length out ≡ length out₀)
-    × Stored out₀ p (each (cellEntries (recordingBy recs counts) (vectorsIn recs counts safe) (vectorsIn recs counts recorded)) cell) out next
+    × Stored out₀ p (each (over cellEntries recs counts safe recorded) cell) out next
 
 abbrev μ-loop : tie.MeasureT-loop
 μ-loop recs counts at safe recorded out₀ p cells next₀ cell₀ out next cell = cells - cell
@@ -32,7 +30,8 @@ unfolding entries
 list-cell-requires c κs =
     let s = c .before .before .before .before .before .before .before .before in
     let k = c .before .before .loop in
-    (s .pre .0, stored-room (cellEntries (recordingBy (s .args .recs .now) (s .args .counts)) (vectorsIn (s .args .recs .now) (s .args .counts) (s .args .safe .now)) (vectorsIn (s .args .recs .now) (s .args .counts) (s .args .recorded .now))) (k .cell) (s .args .counts .cells) (length (k .out)) (omega arith) (k .inv .4) (omega (arith, s .pre .1)))
+    let f = over cellEntries (s .args .recs .now) (s .args .counts) (s .args .safe .now) (s .args .recorded .now) in
+    (s .pre .0, stored-room f (k .cell) (s .args .counts .cells) (length (k .out)) (omega arith) (k .inv .4) (omega (arith, s .pre .1)))
 
 loop-again : tie.Need-loop-again Inv-loop μ-loop
 loop-again c =

@@ -4,10 +4,9 @@ use Prim.Native.Nat.{_-_, _≤_}
 use native.Mathlib.Omega.{arith}
 use lib.ListN.{length}
 use Rattle.model.specs.Numbers.{each}
-use Rattle.model.specs.File.{eventsOf, recordingBy}
+use Rattle.model.specs.File.{eventsOf}
 use Rattle.model.specs.Pairs.{cellEntries}
-use Rattle.passes.specs.Lent.{vectorsIn}
-use Rattle.pairs.specs.Lent.{rowAt, Stored}
+use Rattle.pairs.specs.Lent.{over, rowAt, Stored}
 use Rattle.pairs.proofs.Stores.{stored-none, stored-more, stored-room, stored-all}
 use Rattle.pairs.proofs.list_cell.Statement.{statement}
 use Rattle.pairs.proofs.list_cell.Tie as tie
@@ -17,7 +16,7 @@ Inv-loop recs counts at safe recorded cell out₀ p n next₀ a₀ out next a =
     (a ≤ length (eventsOf recs))
     × (n ≡ length (eventsOf recs))
     × (length out ≡ length out₀)
-    × Stored out₀ p (each (rowAt (recordingBy recs counts) (vectorsIn recs counts safe) (vectorsIn recs counts recorded) cell) a) out next
+    × Stored out₀ p (each (over rowAt recs counts safe recorded cell) a) out next
 
 abbrev μ-loop : tie.MeasureT-loop
 μ-loop recs counts at safe recorded cell out₀ p n next₀ a₀ out next a = n - a
@@ -31,7 +30,8 @@ unfolding cellEntries
 list-access-requires c κs =
     let s = c .before .before .before .before .before .before .before .before in
     let k = c .before .before .loop in
-    ((s .pre .0, omega arith), stored-room (rowAt (recordingBy (s .args .recs .now) (s .args .counts)) (vectorsIn (s .args .recs .now) (s .args .counts) (s .args .safe .now)) (vectorsIn (s .args .recs .now) (s .args .counts) (s .args .recorded .now)) (s .args .cell)) (k .a) (length (eventsOf (s .args .recs .now))) (length (k .out)) (omega arith) (k .inv .3) (omega (arith, s .pre .1)))
+    let f = over rowAt (s .args .recs .now) (s .args .counts) (s .args .safe .now) (s .args .recorded .now) (s .args .cell) in
+    ((s .pre .0, omega arith), stored-room f (k .a) (length (eventsOf (s .args .recs .now))) (length (k .out)) (omega arith) (k .inv .3) (omega (arith, s .pre .1)))
 
 loop-again : tie.Need-loop-again Inv-loop μ-loop
 loop-again c =

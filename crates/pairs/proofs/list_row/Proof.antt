@@ -4,10 +4,9 @@ use Prim.Native.Nat.{_-_, _≤_, _<_}
 use native.Mathlib.Omega.{arith}
 use lib.ListN.{length}
 use Rattle.model.specs.Numbers.{each}
-use Rattle.model.specs.File.{eventsOf, recordingBy}
+use Rattle.model.specs.File.{eventsOf}
 use Rattle.model.specs.Pairs.{entriesOf}
-use Rattle.passes.specs.Lent.{vectorsIn}
-use Rattle.pairs.specs.Lent.{pairAt, Stored}
+use Rattle.pairs.specs.Lent.{over, pairAt, Stored}
 use Rattle.pairs.proofs.Race.{row-from}
 use Rattle.pairs.proofs.Stores.{stored-none, stored-more, stored-room, stored-all}
 use Rattle.pairs.proofs.list_row.Statement.{statement}
@@ -19,7 +18,7 @@ Inv-loop recs counts at safe recorded a out₀ p n next₀ b₀ out next b =
     × (b ≤ length (eventsOf recs))
     × (n ≡ length (eventsOf recs))
     × (length out ≡ length out₀)
-    × Stored out₀ p (each (pairAt (recordingBy recs counts) (vectorsIn recs counts safe) (vectorsIn recs counts recorded) a) b) out next
+    × Stored out₀ p (each (over pairAt recs counts safe recorded a) b) out next
 
 abbrev μ-loop : tie.MeasureT-loop
 μ-loop recs counts at safe recorded a out₀ p n next₀ b₀ out next b = n - b
@@ -32,7 +31,8 @@ unfolding entriesOf
 list-pair-requires c κs =
     let s = c .before .before .before .before .before .before .before .before in
     let k = c .before .before .loop in
-    ((s .pre .0 .0, k .inv .0, omega arith), stored-room (pairAt (recordingBy (s .args .recs .now) (s .args .counts)) (vectorsIn (s .args .recs .now) (s .args .counts) (s .args .safe .now)) (vectorsIn (s .args .recs .now) (s .args .counts) (s .args .recorded .now)) (s .args .a)) (k .b) (length (eventsOf (s .args .recs .now))) (length (k .out)) (omega arith) (k .inv .4) (omega (arith, s .pre .1)))
+    let f = over pairAt (s .args .recs .now) (s .args .counts) (s .args .safe .now) (s .args .recorded .now) (s .args .a) in
+    ((s .pre .0 .0, k .inv .0, omega arith), stored-room f (k .b) (length (eventsOf (s .args .recs .now))) (length (k .out)) (omega arith) (k .inv .4) (omega (arith, s .pre .1)))
 
 loop-again : tie.Need-loop-again Inv-loop μ-loop
 loop-again c =

@@ -1,10 +1,9 @@
 -- race_pair meets its contract. Assumes nothing.
 use mathlib.Core.Path.{_≡_, sym, ap₂, _∙_}
-use mathlib.Core.Bool.{Bool}
 use native.Mathlib.Omega.{arith}
 use borrow.Author.Needs.{needs}
 use borrow.Author.Tests.{not-true, not-false}
-use Rattle.model.specs.Recording.{event}
+use Rattle.model.specs.Recording.{Recording, event}
 use Rattle.model.specs.File.{recordingBy}
 use Rattle.model.specs.Pairs.{conflict}
 use Rattle.pairs.proofs.Race.{race-none, race-by}
@@ -12,10 +11,15 @@ use Rattle.pairs.proofs.race_pair.Statement.{statement}
 use Rattle.pairs.proofs.race_pair.Tie as tie
 
 -- what conflict answered, of the two events
-the-conflict : (c : tie.After-conflict) → c .conflict .result
-    ≡ conflict (event (recordingBy (c .before .before .before .before .before .before .args .recs .now) (c .before .before .before .before .before .before .args .counts)) (c .before .before .before .before .before .before .args .a))
-    (event (recordingBy (c .before .before .before .before .before .before .args .recs .now) (c .before .before .before .before .before .before .args .counts)) (c .before .before .before .before .before .before .args .b))
-the-conflict c = c .conflict .ensures ∙ ap₂ conflict (c .before .before .event-at .ensures) (c .before .event-at2 .ensures)
+module _ (c : tie.After-conflict) where
+  abbrev s : tie.Start
+  s = c .before .before .before .before .before .before
+
+  abbrev E : Recording
+  E = recordingBy (s .args .recs .now) (s .args .counts)
+
+  the-conflict : c .conflict .result ≡ conflict (event E (s .args .a)) (event E (s .args .b))
+  the-conflict = c .conflict .ensures ∙ ap₂ conflict (c .before .before .event-at .ensures) (c .before .event-at2 .ensures)
 
 returns : tie.Need-returns
 returns c =
