@@ -1,0 +1,25 @@
+-- `trial::bytes::all_byte_marks` is safe and ends. Nothing has to hold from turn to turn. The measure is what is left of the range. Assumes nothing.
+use Prim.Native.Nat.{_-_}
+use native.Mathlib.Omega.{arith}
+use Rattle.trial.proofs.bytes.all_byte_marks.Statement.{statement}
+use Rattle.trial.proofs.bytes.all_byte_marks.Tie as tie
+
+abbrev Inv-loop : tie.InvT-loop
+Inv-loop s from mark i₀ i-end i = Unit {0}
+
+abbrev μ-loop : tie.MeasureT-loop
+μ-loop s from mark i₀ i-end i = i-end - i
+
+pub all-byte-marks-spec : {M : Type 1} → statement M
+all-byte-marks-spec =
+    tie.close
+    (tie.spec
+    Inv-loop
+    μ-loop
+    (λ c. tt)
+    (λ c κs. tt)
+    (λ c. tt)
+    (λ c. omega arith)
+    (λ c. omega arith)
+    (λ c. tt)
+    (λ c. tt))

@@ -1,0 +1,26 @@
+-- `trial::bytes::same_bytes` is safe and ends. Nothing has to hold from turn to turn. The measure is what is left of the range. Assumes nothing.
+use Prim.Native.Nat.{_-_}
+use native.Mathlib.Omega.{arith}
+use Rattle.trial.proofs.bytes.same_bytes.Statement.{statement}
+use Rattle.trial.proofs.bytes.same_bytes.Tie as tie
+
+abbrev Inv-loop : tie.InvT-loop
+Inv-loop a b n i₀ i = Unit {0}
+
+abbrev μ-loop : tie.MeasureT-loop
+μ-loop a b n i₀ i = n - i
+
+pub same-bytes-spec : {M : Type 1} → statement M
+same-bytes-spec =
+    tie.close
+    (tie.spec
+    Inv-loop
+    μ-loop
+    (λ c. tt)
+    (λ c κs. tt)
+    (λ c κs. tt)
+    (λ c. tt)
+    (λ c. omega arith)
+    (λ c. omega arith)
+    (λ c. tt)
+    (λ c. tt))

@@ -1,0 +1,32 @@
+-- `trial::generated::put_chain` is safe and ends. Lengths are kept. The measure is what is left of the range. Assumes nothing.
+use mathlib.Core.Path.{_≡_}
+use lib.ListN.{length}
+use Prim.Native.Nat.{_-_}
+use native.Mathlib.Omega.{arith}
+use Rattle.trial.proofs.generated.put_chain.Statement.{statement}
+use Rattle.trial.proofs.generated.put_chain.Tie as tie
+
+abbrev Inv-loop : tie.InvT-loop
+Inv-loop file₀ m n₀ i₀ file n i = length file ≡ length file₀
+
+abbrev μ-loop : tie.MeasureT-loop
+μ-loop file₀ m n₀ i₀ file n i = m - i
+
+pub put-chain-spec : {M : Type 1} → statement M
+put-chain-spec =
+    tie.close
+    (tie.spec
+    Inv-loop
+    μ-loop
+    (λ c κs. tt)
+    (λ c. omega arith)
+    (λ c κs. tt)
+    (λ c κs. tt)
+    (λ c. omega arith)
+    (λ c. omega arith)
+    (λ c. omega arith)
+    (λ c κs. tt)
+    (λ c κs. tt)
+    (λ c κs. tt)
+    (λ c. omega arith)
+    (λ c. tt))

@@ -1,0 +1,143 @@
+// Files at the ends of what a trailer may say.
+use crate::bytes::put_byte;
+use crate::bytes::up_by;
+use crate::make;
+use crate::make::Shape;
+use crate::tries::count;
+use crate::tries::refused_as;
+use crate::tries::say;
+use crate::tries::try_reading;
+use crate::tries::try_sizes;
+use crate::tries::try_writing;
+
+fn put_writes(file: &mut [u8], start: u32) {
+    for e in 0..1025u32 {
+        put_byte(file, up_by(start, e * 4 + 1) as usize, 6);
+    }
+}
+
+// A trailer: where the records start, how many they are, the counts, and the edition.
+struct Edge {
+    start: u32,
+    records: u32,
+    tasks: u16,
+    semaphores: u16,
+    cells: u16,
+    edition: u16,
+}
+
+fn put_edge(file: &mut [u8], length: u32, edge: Edge) {
+    let s = Shape {
+        preamble: 0,
+        events: 0,
+        tasks: edge.tasks,
+        semaphores: edge.semaphores,
+        cells: edge.cells,
+    };
+    put_writes(file, edge.start);
+    if 16 <= length {
+        make::put_trailer(file, length - 16, edge.start, edge.records, s, edge.edition);
+    }
+}
+
+// A file of so many bytes, with writes of cell 0 from the start on, and the number of its refusal.
+fn try_edge(total: u32, length: u32, edge: Edge, number: u16) -> u32 {
+    let mut bytes = [0u8; 4200];
+    put_edge(&mut bytes, length, edge);
+    if 4200 < length {
+        return total;
+    }
+    let file = &bytes[0..length as usize];
+    let refused = count(total, refused_as(file, number, 0), file);
+    try_reading(try_writing(try_sizes(refused, file, 2), file), file)
+}
+
+// The trailer of a file with this start, records and counts, and edition 1.
+fn edition_one(start: u32, records: u32, tasks: u16, semaphores: u16, cells: u16) -> Edge {
+    Edge {
+        start,
+        records,
+        tasks,
+        semaphores,
+        cells,
+        edition: 1,
+    }
+}
+
+// An empty recording with these counts.
+fn try_counts(total: u32, tasks: u16, semaphores: u16, cells: u16, number: u16) -> u32 {
+    try_edge(
+        total,
+        16,
+        edition_one(0, 0, tasks, semaphores, cells),
+        number,
+    )
+}
+
+// One task and one cell, with this start and these records.
+fn try_extent(total: u32, length: u32, start: u32, records: u32, number: u16) -> u32 {
+    try_edge(total, length, edition_one(start, records, 1, 0, 1), number)
+}
+
+// An empty recording of this edition.
+fn try_edition(total: u32, start: u32, edition: u16) -> u32 {
+    let t = Edge {
+        start,
+        records: 0,
+        tasks: 1,
+        semaphores: 0,
+        cells: 0,
+        edition,
+    };
+    try_edge(total, 16, t, 2)
+}
+
+// Counts at and past their ends.
+pub fn try_ranges() {
+    let mut total = 0;
+    total = try_counts(total, 0, 0, 0, 4);
+    total = try_counts(total, 1, 0, 0, 0);
+    total = try_counts(total, 16, 0, 0, 0);
+    total = try_counts(total, 17, 0, 0, 4);
+    total = try_counts(total, 1, 64, 0, 0);
+    total = try_counts(total, 1, 65, 0, 4);
+    total = try_counts(total, 1, 0, 1024, 0);
+    total = try_counts(total, 1, 0, 1025, 4);
+    total = try_extent(total, 4112, 0, 1024, 0);
+    total = try_extent(total, 4116, 0, 1025, 4);
+    total = try_edge(total, 4128, edition_one(16, 1024, 16, 64, 1024), 0);
+    say(b"counts", total);
+}
+
+// Lengths, starts and numbers of records that meet, and that do not.
+pub fn try_extents() {
+    let mut total = 0;
+    total = try_extent(total, 0, 0, 0, 1);
+    total = try_extent(total, 15, 0, 0, 1);
+    total = try_extent(total, 16, 0, 0, 0);
+    total = try_extent(total, 16, 1, 0, 3);
+    total = try_extent(total, 17, 1, 0, 0);
+    total = try_extent(total, 17, 0, 0, 3);
+    total = try_extent(total, 16, 0, 1, 3);
+    total = try_extent(total, 20, 0, 1, 0);
+    total = try_extent(total, 20, 0, 0, 3);
+    total = try_extent(total, 20, 0, 2, 3);
+    total = try_extent(total, 25, 5, 1, 0);
+    say(b"extents", total);
+}
+
+// Sums that meet the length only where they wrap, editions, and the order of the first four refusals.
+pub fn try_trailers() {
+    let mut total = 0;
+    total = try_extent(total, 16, 0, 1073741824, 3);
+    total = try_extent(total, 16, 4294967292, 1, 3);
+    total = try_extent(total, 16, 4294967295, 4294967295, 3);
+    total = try_edition(total, 0, 0);
+    total = try_edition(total, 0, 2);
+    total = try_edition(total, 0, 257);
+    total = try_edition(total, 1, 2);
+    total = try_edge(total, 16, edition_one(1, 0, 17, 0, 0), 3);
+    total = try_edge(total, 20, edition_one(0, 1, 17, 0, 0), 4);
+    total = try_edge(total, 20, edition_one(0, 1, 1, 0, 0), 6);
+    say(b"trailers", total);
+}

@@ -1,0 +1,219 @@
+// Small recordings in the notation of document 01: each event as its task, a letter and its object.
+use crate::bytes::byte;
+use crate::bytes::put_byte;
+use crate::compare;
+use crate::make;
+use crate::make::Shape;
+use crate::tries::count;
+use crate::tries::refused_as;
+use crate::tries::say;
+use crate::tries::try_questions;
+use crate::tries::try_reading;
+use crate::tries::try_sizes;
+use crate::tries::try_writing;
+
+fn kind_of(letter: u8) -> u8 {
+    match letter {
+        b'S' => 1,
+        b'P' => 2,
+        b'F' => 3,
+        b'J' => 4,
+        b'R' => 5,
+        b'W' => 6,
+        b'y' => 7,
+        b'z' => 255,
+        _ => 0,
+    }
+}
+
+fn digit(text: &[u8], i: usize) -> u8 {
+    let c = byte(text, i);
+    if 48 <= c { c - 48 } else { 0 }
+}
+
+fn put_event(file: &mut [u8], text: &[u8], e: u16) {
+    let i = e as usize * 4;
+    put_byte(file, i, digit(text, i));
+    put_byte(file, i + 1, kind_of(byte(text, i + 1)));
+    put_byte(file, i + 2, digit(text, i + 2));
+}
+
+fn put_events(file: &mut [u8], text: &[u8], n: u16) {
+    for e in 0..n {
+        put_event(file, text, e);
+    }
+}
+
+// How many events a text of four bytes each has, the last one without its space.
+fn events_in(text: &[u8]) -> u16 {
+    let n = text.len() / 4 % 64;
+    (n + 1) as u16
+}
+
+fn try_budgets(start: u32, file: &[u8], room: usize) -> u32 {
+    let mut total = start;
+    for budget in 0..5u32 {
+        total = try_sizes(total, file, budget);
+        total = try_questions(total, file, budget, room);
+    }
+    total
+}
+
+// All that is compared of a small file.
+fn try_whole(start: u32, file: &[u8]) -> u32 {
+    let room = compare::work_needed(file);
+    let passes = try_budgets(start, file, room);
+    let most = try_sizes(passes, file, 4294967295);
+    let asked = try_questions(most, file, 4294967295, compare::one_less(room));
+    try_reading(try_writing(asked, file), file)
+}
+
+// A recording with these counts, and the number and record of its refusal.
+fn try_text(
+    start: u32,
+    tasks: u16,
+    semaphores: u16,
+    cells: u16,
+    number: u16,
+    record: u16,
+    text: &[u8],
+) -> u32 {
+    let n = events_in(text);
+    let s = Shape {
+        preamble: 0,
+        events: n,
+        tasks,
+        semaphores,
+        cells,
+    };
+    let mut bytes = [0u8; 400];
+    put_events(&mut bytes, text, n);
+    make::put_trailer(&mut bytes, make::place(0, n), 0, n as u32, s, 1);
+    let length = n as usize * 4 + 16;
+    if 400 < length {
+        return start;
+    }
+    let file = &bytes[0..length];
+    let total = count(start, refused_as(file, number, record), file);
+    try_whole(total, file)
+}
+
+// A to J of document 01.
+pub fn try_worked() {
+    let mut total = 0;
+    // A
+    total = try_text(total, 2, 1, 1, 0, 0, b"0W0 0S0 1P0 1R0");
+    // B
+    total = try_text(total, 3, 1, 1, 0, 0, b"0W0 0S0 1S0 2P0 2R0");
+    // C
+    total = try_text(total, 3, 1, 1, 0, 0, b"1S0 0W0 0S0 2P0 2R0");
+    // D
+    total = try_text(total, 3, 1, 1, 0, 0, b"0W0 0S0 1S0 2P0 2P0 2R0");
+    // E
+    total = try_text(total, 4, 1, 1, 0, 0, b"0W0 0S0 1S0 2P0 3P0 3R0");
+    // F
+    total = try_text(total, 2, 1, 1, 0, 0, b"1W0 1S0 0P0 0S0 0R0");
+    // G
+    total = try_text(total, 2, 0, 1, 0, 0, b"0W0 0F1 1W0 0R0 0J1 0W0");
+    // H
+    total = try_text(total, 2, 0, 0, 0, 0, b"0F1 0J1");
+    // I
+    total = try_text(total, 2, 0, 0, 7, 0, b"0J1");
+    // J
+    total = try_text(total, 1, 1, 0, 8, 0, b"0P0");
+    say(b"worked", total);
+}
+
+// Kinds from 1 to 6, and names below their counts.
+pub fn try_names() {
+    let mut total = 0;
+    // kind 0
+    total = try_text(total, 1, 1, 1, 5, 0, b"0x0");
+    // kind 7
+    total = try_text(total, 1, 1, 1, 5, 0, b"0y0");
+    // kind 7 in record 1
+    total = try_text(total, 1, 1, 1, 5, 1, b"0W0 0y0");
+    // kind 255, task and object beyond
+    total = try_text(total, 1, 1, 1, 5, 0, b"9z9");
+    // task 2 of 2
+    total = try_text(total, 2, 1, 1, 6, 0, b"2W0");
+    // task 1 of 2
+    total = try_text(total, 2, 1, 1, 0, 0, b"1W0");
+    // semaphore 2 of 2
+    total = try_text(total, 1, 2, 1, 6, 0, b"0S2");
+    // semaphore 1 of 2
+    total = try_text(total, 1, 2, 1, 0, 0, b"0S1");
+    // no semaphore
+    total = try_text(total, 1, 0, 1, 6, 0, b"0S0");
+    // wait on semaphore 2 of 2
+    total = try_text(total, 1, 2, 1, 6, 0, b"0P2");
+    // fork of task 2 of 2
+    total = try_text(total, 2, 0, 0, 6, 0, b"0F2");
+    // fork of task 1 of 2
+    total = try_text(total, 2, 0, 0, 0, 0, b"0F1");
+    // join of task 2 of 2
+    total = try_text(total, 2, 0, 0, 6, 0, b"0J2");
+    // cell 2 of 2
+    total = try_text(total, 1, 0, 2, 6, 0, b"0R2");
+    // cell 1 of 2
+    total = try_text(total, 1, 0, 2, 0, 0, b"0R1");
+    // write of cell 2 of 2
+    total = try_text(total, 1, 0, 2, 6, 0, b"0W2");
+    // no cell
+    total = try_text(total, 1, 1, 0, 6, 0, b"0W0");
+    say(b"kinds and names", total);
+}
+
+// The first three rules.
+pub fn try_lives() {
+    let mut total = 0;
+    // a joined task goes on
+    total = try_text(total, 2, 0, 1, 7, 3, b"0F1 1W0 0J1 1W0");
+    // fork of itself
+    total = try_text(total, 2, 0, 0, 7, 0, b"0F0");
+    // forked twice
+    total = try_text(total, 2, 0, 0, 7, 1, b"0F1 0F1");
+    // fork after a record
+    total = try_text(total, 2, 0, 1, 7, 1, b"1W0 0F1");
+    // fork after a record, and again
+    total = try_text(total, 2, 0, 1, 7, 2, b"0F1 1W0 0F1");
+    // join of itself
+    total = try_text(total, 2, 0, 0, 7, 0, b"0J0");
+    // joined twice
+    total = try_text(total, 2, 0, 0, 7, 2, b"0F1 0J1 0J1");
+    // join by another task
+    total = try_text(total, 3, 0, 0, 0, 0, b"0F1 2J1");
+    // a joined task joins
+    total = try_text(total, 3, 0, 0, 7, 3, b"0F1 0F2 0J1 1J2");
+    // life before wait
+    total = try_text(total, 2, 1, 0, 7, 2, b"0F1 0J1 1P0");
+    // name before life
+    total = try_text(total, 2, 0, 1, 6, 2, b"0F1 0J1 1W1");
+    say(b"lives", total);
+}
+
+// The wait rule, the first faulty record, and runs of several passes.
+pub fn try_waits() {
+    let mut total = 0;
+    // two waits for one signal
+    total = try_text(total, 1, 1, 0, 8, 2, b"0S0 0P0 0P0");
+    // signal on another semaphore
+    total = try_text(total, 1, 2, 0, 8, 1, b"0S0 0P1");
+    // wait before signal
+    total = try_text(total, 1, 1, 0, 8, 0, b"0P0 0S0");
+    // first faulty record
+    total = try_text(total, 1, 1, 0, 8, 0, b"0P0 0z0");
+    // seven passes
+    total = try_text(
+        total,
+        2,
+        1,
+        0,
+        0,
+        0,
+        b"1S0 0P0 0S0 0P0 0S0 0P0 0S0 0P0 0S0 0P0 0S0 0S0 1P0 1P0",
+    );
+    // a fork after a write, two signals
+    total = try_text(total, 3, 1, 1, 0, 0, b"0W0 0F1 1S0 2P0 1S0");
+    say(b"waits", total);
+}
