@@ -12,5 +12,7 @@ pub mod Pairs
 pub mod Analysing
 pub mod Question
 pub mod Writing
+pub mod Text
+pub mod Report
 pub mod RoundTrip
 pub mod Promise

@@ -1,4 +1,1 @@
-pub mod Putting
-pub mod Decimal
-pub mod Listing
 pub mod Whole

@@ -1,34 +1,29 @@
 -- The report of the answer is that of the file.
 -- Assumes nothing.
-use Prim.Native.Nat.{ℕ, _+_, _-_, _*_, _/_, _≤_, _<_}
+use Prim.Native.Nat.{ℕ, _*_, _/_, _≤_, _<_}
 use mathlib.Core.Path.{_≡_, refl, sym, ap, _∙_}
-use mathlib.Core.Bool.{true, false, cond}
 use mathlib.Core.List.{List, [], _∷_, _++_}
 use native.Mathlib.Omega.{arith}
-use lib.Dec.{leb, ltb}
 use lib.ListN.{length, drop, length-append}
 use Rattle.model.specs.declared.Check.{Check}
 use Rattle.model.specs.declared.Refusal.{Refusal}
 use Rattle.model.specs.declared.Analysis.{Analysis}
-use Rattle.model.specs.declared.Reading.{Reading}
-use Rattle.model.specs.Refusals.{unless, andThen, after}
-use Rattle.model.specs.Numbers.{each}
-use Rattle.model.specs.Recording.{Recording, size, tasks}
-use Rattle.model.specs.File.{eventsOf, headerOf, recordBytes, recordingOf}
-use Rattle.model.specs.Reading.{fileCheck, readingBy, readingOf, recordsOf}
+use Rattle.model.specs.Recording.{size, tasks}
+use Rattle.model.specs.File.{headerOf, recordBytes, recordingOf}
+use Rattle.model.specs.Reading.{fileCheck, readingOf, recordsOf}
 use Rattle.model.specs.Passes.{run}
 use Rattle.model.specs.Pairs.{Entry, listed, entryNumbers}
-use Rattle.model.specs.Analysing.{workFits, listFits, workCheck, analysisCheck, done, analysisBy, analysisOf, workAfter, listAfter}
+use Rattle.model.specs.Analysing.{workCheck, analysisCheck, analysisOf, workAfter, listAfter}
 use Rattle.model.proofs.Tests.{leb-true, le-leb, lt-ltb, le-ltb}
 use Rattle.model.proofs.Checks.{unless-passed, then-passed}
 use Rattle.model.proofs.Files.{sound, events-length, size-records}
-use Rattle.report.specs.Text.{bytes}
-use Rattle.report.specs.Output.{laid, filling, Put}
-use Rattle.report.specs.Report.{resultLine, resultText, budgetOf, reportBy, isLong, reportOf, reportedWork, reportedList}
-use Rattle.report.specs.Entries.{nthLine}
-use Rattle.report.specs.Answer.{budgetIn, tasksIn, Holds, answerText}
-use Rattle.report.proofs.Putting.{put-laid}
-use Rattle.report.proofs.Listing.{each-entry}
+use Rattle.model.specs.Text.{bytes}
+use Rattle.model.specs.Report.{laid, filling}
+use Rattle.printing.specs.Output.{Put}
+use Rattle.model.specs.Report.{resultLine, resultText, budgetOf, reportBy, isLong, reportOf, reportedWork, reportedList}
+use Rattle.printing.specs.Answer.{budgetIn, tasksIn, Holds, answerText}
+use Rattle.printing.proofs.Putting.{put-laid}
+use Rattle.printing.proofs.Listing.{each-entry}
 
 numbers-length : (l : List Entry) → length (entryNumbers l) ≡ 3 * length l
 unfolding entryNumbers

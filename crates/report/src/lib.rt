@@ -1,12 +1,6 @@
 // What the program prints, as bytes in a lent output.
-mod answer;
-mod entries;
-mod lines;
-mod output;
-
 ghost use mathlib.Core.Path.{_≡_};
-ghost use Rattle.report.specs.Output.{laid, filling};
-ghost use Rattle.report.specs.Report.{reportOf, reportedWork, reportedList};
+ghost use Rattle.model.specs.Report.{reportOf, reportedWork, reportedList, laid, filling};
 
 // What the program prints of a file: the report of an analysis with the budget N × N + 1, the line
 // of a refusal, or `too long`. It is put at the start of the output, and what does not fit is left
@@ -18,11 +12,11 @@ pub fn report(file: &[u8], work: &mut [u16], list: &mut [u16], out: &mut [u8]) -
     ensures { λ _. ⌜ now (list .exit) ≡ reportedList (now (file .entry)) (now (work .entry)) (now (list .entry)) ⌝ }
 {
     if 16384 < file.len() {
-        return output::put_text(out, 0, b"too long\n");
+        return printing::output::put_text(out, 0, b"too long\n");
     }
     let records = recording::records(file);
-    let budget = answer::budget_of(records);
-    let tasks = answer::tasks_of(file);
+    let budget = printing::answer::budget_of(records);
+    let tasks = printing::answer::tasks_of(file);
     let found = analysis::analyse(file, budget, work, list);
-    answer::put_answer(out, records, tasks, found, list)
+    printing::answer::put_answer(out, records, tasks, found, list)
 }

@@ -1,12 +1,11 @@
 -- A walk from record 0 yields each whole record once, in order, and then the end, its number then unchanged; over a refused file it yields none. Assumes nothing.
-use mathlib.Core.Path.{_≡_, refl, _∙_}
+use mathlib.Core.Path.{_≡_, refl}
 use mathlib.Core.List.{List}
 use Prim.Native.Nat.{ℕ, zero, suc, _+_, _/_, _<_, _≤_}
 use native.Mathlib.Numerals.{add-one}
 use native.Mathlib.Omega.{arith}
 use borrow.Author.Tests.{lt-ltb, le-ltb}
 use lib.ListN.{length, getD}
-use Rattle.model.specs.declared.Header.{Header}
 use Rattle.model.specs.declared.Refusal.{Refusal}
 use Rattle.model.specs.declared.Reading.{Reading}
 use Rattle.model.specs.declared.Item.{Item}
@@ -15,7 +14,7 @@ use Rattle.model.specs.File.{eventAt, eventsOf}
 use Rattle.model.specs.Reading.{readingOf, recordsOf}
 use Rattle.model.specs.Walking.{stepAt}
 use Rattle.events.proofs.Laws.{event-at}
-use Rattle.recording.proofs.Files.{no-records, the-records, within, part-is, part-length}
+use Rattle.recording.proofs.Files.{no-records}
 
 -- the number of the next record after k steps from record 0
 unfoldable pub after : List ℕ → ℕ → ℕ

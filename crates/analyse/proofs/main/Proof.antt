@@ -1,7 +1,7 @@
 -- `analyse::main` is safe and ends: what was read and what is to be written are parts of the buffers. Assumes nothing.
 use native.Mathlib.Omega.{arith}
 use borrow.Author.Needs.{needs}
-use Rattle.report.proofs.Putting.{filling-within}
+use Rattle.printing.proofs.Putting.{filling-within}
 use Rattle.analyse.proofs.main.Statement.{statement}
 use Rattle.analyse.proofs.main.Tie as tie
 

@@ -1,7 +1,6 @@
 -- `recording::writing::records_check` meets its contract. Each return cites the law of the test that led to it. Assumes nothing.
 use native.Mathlib.Omega.{arith}
 use borrow.Author.Needs.{needs}
-use mathlib.Core.Path.{sym, _∙_}
 use Rattle.rules.proofs.Laws.{passed, failed}
 use Rattle.recording.proofs.Outputs.{ragged, beyond, by-rules}
 use Rattle.recording.proofs.writing.records_check.Statement.{statement}

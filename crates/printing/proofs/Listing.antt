@@ -1,0 +1,68 @@
+-- The lines of the entries: one more at each turn, and in the end those of the list.
+-- Assumes nothing.
+use Prim.Native.Nat.{ℕ, zero, suc, _+_, _*_, _/_, _≤_}
+use mathlib.Core.Path.{_≡_, refl, sym, ap, _∙_}
+use mathlib.Core.List.{List, [], _∷_, _++_, append-assoc, append-nil}
+use native.Mathlib.Numerals.{add-one}
+use native.Mathlib.Omega.{arith}
+use lib.ListN.{length, List·getD-eq-default}
+use Rattle.model.specs.Numbers.{each}
+use Rattle.model.specs.Recording.{noEvent}
+use Rattle.model.specs.File.{eventsOf, recordingBy}
+use Rattle.model.specs.declared.Counts.{Counts}
+use Rattle.model.specs.Pairs.{Entry, entryNumbers}
+use Rattle.model.proofs.Files.{events-length}
+use Rattle.printing.specs.Output.{Put}
+use Rattle.model.specs.Report.{entryText, entriesText}
+use Rattle.printing.specs.Entries.{objectIn, nthLine}
+use Rattle.printing.proofs.Putting.{put-then}
+
+pub object-past : (s : List ℕ) (e : ℕ) → length s / 4 ≤ e → 0 ≡ objectIn s e
+object-past s e h =
+    let g : length (eventsOf s) ≤ e = omega (arith, events-length s) in
+    ap (λ v. v .object) (sym (List·getD-eq-default (eventsOf s) noEvent g))
+
+-- ---- the loop
+
+pub none : (f : ℕ → List ℕ) → each f 0 ≡ []
+unfolding each
+none f = refl
+
+pub put-more : (f : ℕ → List ℕ) (i : ℕ) {a b c : List ℕ} {at j k : ℕ} → Put a b at (each f i) j → Put b c j (f i) k → Put a c at (each f (i + 1)) k
+unfolding each
+put-more f i p q = rw (add-one i) (put-then p q)
+
+-- ---- the list
+
+each-cons : (f : ℕ → List ℕ) (n : ℕ) → each f (suc n) ≡ f 0 ++ each (λ i. f (suc i)) n
+unfolding each
+each-cons f zero = sym (append-nil (f 0))
+each-cons f (suc n) = rw (each-cons f n) (append-assoc (f 0) (each (λ i. f (suc i)) n) (f (suc n)))
+
+each-alike : (f g : ℕ → List ℕ) (n : ℕ) → ((i : ℕ) → f i ≡ g i) → each f n ≡ each g n
+unfolding each
+each-alike f g zero h = refl
+each-alike f g (suc n) h = rw (each-alike f g n h, h n)
+
+-- the numbers of a list with one entry in front, an entry further on
+next-line : (s : List ℕ) (a b m : ℕ) (l : List ℕ) (i : ℕ) → nthLine s (a ∷ b ∷ m ∷ l) (suc i) ≡ nthLine s l i
+unfolding nthLine
+next-line s a b m l i =
+    let first : 3 * suc i ≡ suc (suc (suc (3 * i))) = omega arith in
+    let second : 3 * suc i + 1 ≡ suc (suc (suc (3 * i + 1))) = omega arith in
+    let third : 3 * suc i + 2 ≡ suc (suc (suc (3 * i + 2))) = omega arith in
+    rw (third, second, first)
+
+first-line : (s : List ℕ) (c : Counts) (p : Entry) (l : List ℕ) → nthLine s (p .first ∷ p .second ∷ p .mark ∷ l) 0 ≡ entryText (recordingBy s c) p
+unfolding nthLine entryText
+first-line s c p l = refl
+
+-- one line for each entry of the list that the numbers hold
+pub each-entry : (s : List ℕ) (c : Counts) (l : List Entry) (rest : List ℕ) → each (nthLine s (entryNumbers l ++ rest)) (length l) ≡ entriesText (recordingBy s c) l
+unfolding entryNumbers entriesText
+each-entry s c [] rest = none _
+each-entry s c (p ∷ l) rest =
+    let L = entryNumbers (p ∷ l) ++ rest in
+    each-cons (nthLine s L) (length l)
+    ∙ ap (λ (x : List ℕ). nthLine s L 0 ++ x) (each-alike _ _ (length l) (next-line s (p .first) (p .second) (p .mark) (entryNumbers l ++ rest)) ∙ each-entry s c l rest)
+    ∙ ap (λ (x : List ℕ). x ++ entriesText (recordingBy s c) l) (first-line s c p (entryNumbers l ++ rest))

@@ -1,0 +1,16 @@
+-- The lines of the entries, from record bytes and the numbers of a list.
+-- Assumes nothing.
+use Prim.Native.Nat.{ℕ, _+_, _*_}
+use mathlib.Core.List.{List}
+use lib.ListN.{getD}
+use Rattle.model.specs.Recording.{noEvent}
+use Rattle.model.specs.File.{eventsOf}
+use Rattle.model.specs.Report.{entryLine}
+
+-- the object of event e
+abbrev pub objectIn : List ℕ → ℕ → ℕ
+objectIn s e = getD (eventsOf s) e noEvent .object
+
+-- the line of entry i
+unfoldable pub nthLine : List ℕ → List ℕ → ℕ → List ℕ
+nthLine s list i = entryLine (objectIn s (getD list (3 * i) 0)) (getD list (3 * i) 0) (getD list (3 * i + 1) 0) (getD list (3 * i + 2) 0)

@@ -1,0 +1,56 @@
+// The report of an answer.
+ghost use Prim.Native.Nat.{_≤_};
+ghost use mathlib.Core.Path.{_≡_};
+ghost use lib.ListN.{length};
+ghost use Rattle.model.specs.Reading.{readingOf};
+ghost use Rattle.printing.specs.Output.{Put};
+ghost use Rattle.printing.specs.Answer.{budgetIn, tasksIn, Holds, answerText};
+use crate::entries::put_entries;
+use crate::lines::put_refusal;
+use crate::lines::put_result;
+use model::Analysis;
+use model::Reading;
+
+// N × N + 1: enough for the passes to settle.
+pub fn budget_of(records: &[u8]) -> u32
+    ensures { λ r. ⌜ r ≡ budgetIn (now (records .entry)) ⌝ }
+{
+    let n = records.len() / 4;
+    if n <= 1024 {
+        let m = n as u32;
+        return m * m + 1;
+    }
+    0
+}
+
+pub fn tasks_of(file: &[u8]) -> u16
+    ensures { λ r. ⌜ r ≡ tasksIn (readingOf (now (file .entry))) ⌝ }
+{
+    match recording::read(file) {
+        Reading::Accepted(h) => h.counts.tasks,
+        Reading::Refused(_) => 0,
+    }
+}
+
+pub fn put_answer(
+    out: &mut [u8],
+    records: &[u8],
+    tasks: u16,
+    answer: Analysis,
+    list: &[u16],
+) -> usize
+    requires { ⌜ Holds answer (now list) ⌝ }
+    ensures { λ r. ⌜ Put (now (out .entry)) (now (out .exit)) 0 (answerText (now (records .entry)) tasks answer (now (list .entry))) r ⌝ }
+{
+    match answer {
+        Analysis::Done {
+            passes,
+            settled,
+            pairs,
+        } => {
+            let next = put_result(out, 0, records.len() / 4, tasks, passes, settled, pairs);
+            put_entries(out, next, records, list, pairs)
+        }
+        Analysis::Refused(r) => put_refusal(out, 0, r),
+    }
+}
