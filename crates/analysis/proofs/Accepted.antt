@@ -2,20 +2,25 @@
 -- Assumes nothing.
 use mathlib.Core.Path.{_≡_, sym, ap, ap₂, subst, _∙_}
 use mathlib.Core.List.{List}
-use Prim.Native.Nat.{ℕ, _*_}
+use Prim.Native.Nat.{ℕ, _+_, _*_, _≤_, _<_}
 use native.Mathlib.Omega.{arith}
 use lib.ListN.{length}
 use Rattle.model.specs.declared.Counts.{Counts}
 use Rattle.model.specs.declared.Header.{Header}
 use Rattle.model.specs.declared.Check.{Check}
 use Rattle.model.specs.declared.Reading.{Reading}
-use Rattle.model.specs.Recording.{size, Accepted}
+use Rattle.model.specs.Recording.{Recording, size, kindOf, objectOf, classOf, Accepted}
 use Rattle.model.specs.File.{headerOf, recordBytes, recordingBy, recordingOf}
-use Rattle.model.specs.Reading.{fileCheck, readingOf, recordsOf}
-use Rattle.model.proofs.Accept.{task-inside}
+use Rattle.model.specs.Reading.{fileCheck, readingOf}
+use Rattle.model.proofs.Accept.{task-inside, object-inside}
 use Rattle.model.proofs.Files.{sound, bytes-length, size-records}
-use Rattle.recording.proofs.Files.{accepted-is}
+use Rattle.recording.proofs.Files.{accepted-is, within}
 use Rattle.analysis.specs.Lent.{Ready}
+
+-- a wait names a semaphore
+semaphore-inside : (E : Recording) → Accepted E → (e : ℕ) → e < size E → kindOf E e ≡ 2 → objectOf E e < E .counts .semaphores
+unfolding classOf
+semaphore-inside E acc e l w = rw w at (object-inside E acc e l)
 
 module _ (f : List ℕ) (h : Header) (q : readingOf f ≡ Reading.Accepted h) where
   pub passed : fileCheck f ≡ Check.Passed
@@ -24,14 +29,14 @@ module _ (f : List ℕ) (h : Header) (q : readingOf f ≡ Reading.Accepted h) wh
   header : h ≡ headerOf f
   header = accepted-is f h q .0
 
-  bytes : recordsOf f ≡ recordBytes f (headerOf f)
-  unfolding recordsOf
-  bytes = rw passed
+  -- the records' part, cut by the header, lies within the file
+  pub inside : h .start + 4 * h .records ≤ length f
+  inside = omega (arith, within f h q)
 
-  module _ (s : List ℕ) (e : s ≡ recordsOf f) where
+  module _ (s : List ℕ) (e : s ≡ recordBytes f h) where
     pub the-recording : recordingBy s (h .counts) ≡ recordingOf f
     unfolding recordingOf
-    the-recording = ap₂ recordingBy (e ∙ bytes) (ap (λ (x : Header). x .counts) header)
+    the-recording = ap₂ recordingBy (e ∙ ap (recordBytes f) header) (ap (λ (x : Header). x .counts) header)
 
     pub ready : Ready s (h .counts)
     ready =
@@ -40,13 +45,15 @@ module _ (f : List ℕ) (h : Header) (q : readingOf f ≡ Reading.Accepted h) wh
         let n : size (recordingBy s (h .counts)) ≡ headerOf f .records = ap size the-recording ∙ size-records f u in
         let k : h .counts ≡ headerOf f .counts = ap (λ (x : Header). x .counts) header in
         let t : h .counts .tasks ≡ headerOf f .counts .tasks = ap (λ (x : Counts). x .tasks) k in
+        let m : h .counts .semaphores ≡ headerOf f .counts .semaphores = ap (λ (x : Counts). x .semaphores) k in
         let d : h .counts .cells ≡ headerOf f .counts .cells = ap (λ (x : Counts). x .cells) k in
         record {
           records =
               record {
-                whole = ap length (e ∙ bytes) ∙ bytes-length f u ∙ ap (λ (m : ℕ). 4 * m) (sym n);
+                whole = ap length (e ∙ ap (recordBytes f) header) ∙ bytes-length f u ∙ ap (λ (m : ℕ). 4 * m) (sym n);
                 few = omega (arith, n, r .few-records);
                 named = task-inside (recordingBy s (h .counts)) (subst Accepted (sym the-recording) (u .accepted));
+                waits = λ e l w. omega (arith, m, r .few-semaphores, semaphore-inside (recordingBy s (h .counts)) (subst Accepted (sym the-recording) (u .accepted)) e l w);
               };
           tasks = omega (arith, t, r .few-tasks);
           cells = omega (arith, d, r .few-cells);

@@ -13,8 +13,8 @@ use Rattle.model.specs.declared.Analysis.{Analysis}
 use Rattle.model.specs.declared.Answer.{Answer}
 use Rattle.model.specs.declared.Relation.{Relation}
 use Rattle.model.specs.Recording.{Recording, size}
-use Rattle.model.specs.File.{recordingBy, recordingOf}
-use Rattle.model.specs.Reading.{readingOf, recordsOf}
+use Rattle.model.specs.File.{recordBytes, recordingBy, recordingOf}
+use Rattle.model.specs.Reading.{readingOf}
 use Rattle.model.specs.Passes.{safeVectors, passesMade, isSettled}
 use Rattle.model.specs.Vectors.{Vectors}
 use Rattle.model.specs.Recorded.{recorded}
@@ -29,7 +29,7 @@ use Rattle.analysis.proofs.Parts.{safe-filled, recorded-filled}
 use Rattle.analysis.proofs.Accepted.{passed, the-recording}
 use Rattle.analysis.proofs.Answers.{refused-work, refused-list, finished, asked-event, asked-work, related}
 
-module _ (f : List ℕ) (h : Header) (q : readingOf f ≡ Reading.Accepted h) (s : List ℕ) (e : s ≡ recordsOf f) (b : ℕ) (w : List ℕ) where
+module _ (f : List ℕ) (h : Header) (q : readingOf f ≡ Reading.Accepted h) (s : List ℕ) (e : s ≡ recordBytes f h) (b : ℕ) (w : List ℕ) where
   abbrev E : Recording
   E = recordingBy s (h .counts)
 

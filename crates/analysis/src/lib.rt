@@ -80,7 +80,7 @@ fn analyse_read(
     requires { ⌜ readingOf (now file) ≡ Reading.Accepted header ⌝ }
     ensures { λ r. ⌜ Analysed (now (file .entry)) budget (now (work .entry)) (now (list .entry)) r (now (work .exit)) (now (list .exit)) ⌝ }
 {
-    let recs = recording::records(file);
+    let recs = events::records_of(file, header);
     let counts = header.counts;
     if !work_fits(recs, counts, work) {
         return Analysis::Refused(Refusal::Work);
@@ -132,7 +132,7 @@ fn ask_read(
     requires { ⌜ readingOf (now file) ≡ Reading.Accepted header ⌝ }
     ensures { λ r. ⌜ Asked (now (file .entry)) a b budget (now (work .entry)) r (now (work .exit)) ⌝ }
 {
-    let recs = recording::records(file);
+    let recs = events::records_of(file, header);
     let counts = header.counts;
     if !two_events(recs, counts, a, b) {
         return Answer::Refused(Refusal::Event);

@@ -2,14 +2,16 @@
 ghost use mathlib.Core.Path.{_≡_};
 ghost use mathlib.Core.List.{_++_};
 ghost use Prim.Native.Nat.{_+_, _*_, _/_, _≤_, _<_};
-ghost use lib.ListN.{length, getD, take, drop};
+ghost use lib.ListN.{length, getD, drop};
 ghost use Rattle.model.specs.declared.Counts.{Counts};
-ghost use Rattle.model.specs.Numbers.{tally, count, listOf, lastOf};
+ghost use Rattle.model.specs.Numbers.{listOf, lastOf};
 ghost use Rattle.model.specs.Recording.{noEvent, ofTask, isOn};
-ghost use Rattle.model.specs.File.{u16At, eventsOf, recordingBy};
+ghost use Rattle.model.specs.File.{u16At, eventsOf, recordBytes, recordingBy};
 ghost use Rattle.model.specs.Vectors.{position};
+ghost use Rattle.events.specs.Chains.{among, Chained};
 use model::Event;
 use model::Found;
+use model::Header;
 
 // The number of two bytes, little-endian.
 pub fn u16_at(s: &[u8], i: usize) -> u16
@@ -17,6 +19,16 @@ pub fn u16_at(s: &[u8], i: usize) -> u16
     ensures { λ r. ⌜ r ≡ u16At (now (s .entry)) i ⌝ }
 {
     (s[i] as u16) + 256 * (s[i + 1] as u16)
+}
+
+// The records' part of a file with this header.
+pub fn records_of(file: &[u8], header: Header) -> &[u8]
+    requires { ⌜ header .start + 4 * header .records ≤ length (now file) ⌝ }
+    ensures { λ r. ⌜ now r ≡ recordBytes (now (file .entry)) header ⌝ }
+{
+    let start = header.start;
+    let stop = start + 4 * header.records;
+    &file[start..stop]
 }
 
 // Event e, which is record e.
@@ -40,22 +52,6 @@ fn is_on(v: Event, kind: u8, object: u16) -> bool
         return v.object == object;
     }
     false
-}
-
-// How many of the first n events have this kind and this object.
-pub fn count_on(recs: &[u8], n: usize, kind: u8, object: u16) -> usize
-    requires { ⌜ 4 * n ≤ length (now recs) ⌝ }
-    ensures { λ r. ⌜ (r ≡ count (isOn kind object) (take n (eventsOf (now (recs .entry))))) × (r ≤ n) ⌝ }
-{
-    let mut found: usize = 0;
-    let mut i = 0;
-    while i < n {
-        if is_on(event_at(recs, i), kind, object) {
-            found += 1;
-        }
-        i += 1;
-    }
-    found
 }
 
 // The last of the first n events that is this task's, found by a call on the record one lower.
@@ -89,31 +85,6 @@ pub fn last_on(recs: &[u8], n: usize, kind: u8, object: u16) -> Found
     Found::Nothing
 }
 
-// How many of the first n events are this task's.
-fn count_of(recs: &[u8], n: usize, task: u8) -> u16
-    requires { ⌜ (4 * n ≤ length (now recs)) × (length (now recs) ≤ 4096) ⌝ }
-    ensures { λ r. ⌜ r ≡ tally (λ a. ofTask task (getD (eventsOf (now (recs .entry))) a noEvent)) n ⌝ }
-{
-    let mut found: u16 = 0;
-    let mut i = 0;
-    while i < n {
-        if recs[4 * i] == task {
-            found += 1;
-        }
-        i += 1;
-    }
-    found
-}
-
-// The position of event e. It does not depend on the counts.
-pub fn position(recs: &[u8], e: usize) -> u16
-    requires { ⌜ (4 * e + 3 < length (now recs)) × (length (now recs) ≤ 4096) ⌝ }
-    ensures { λ r. ⌜ ((c : Counts) → r ≡ position (recordingBy (now (recs .entry)) c) e) ⌝ }
-{
-    let v = event_at(recs, e);
-    count_of(recs, e + 1, v.task)
-}
-
 // Writes the positions of all whole records from the front; what is behind them stays.
 pub fn positions(recs: &[u8], out: &mut [u16])
     requires { ⌜ (length (now recs) ≤ 4 * length (now out)) × (length (now recs) ≤ 4096) ⌝ }
@@ -122,9 +93,43 @@ pub fn positions(recs: &[u8], out: &mut [u16])
         ++ drop (length (now (recs .entry)) / 4) (now (out .entry))) ⌝ }
 {
     let n = recs.len() / 4;
+    let mut own = [0u16; 256];
     let mut e = 0;
     while e < n {
-        out[e] = position(recs, e);
+        let task = recs[4 * e] as usize;
+        let at = own[task] + 1;
+        own[task] = at;
+        out[e] = at;
         e += 1;
     }
+}
+
+// Puts event e first in the chain of its object, where its kind is one of lo to hi and its object is below `limit`.
+fn link(recs: &[u8], lo: u8, hi: u8, limit: u16, e: usize, chain: &mut [u16; 2048])
+    requires { ⌜ (4 * e + 3 < length (now recs)) × (length (now recs) ≤ 4096) × (limit ≤ 1024) ⌝ }
+    requires { ⌜ Chained (among (now recs) lo hi) (length (now recs) / 4) limit (e + 1) (now chain) ⌝ }
+    ensures { λ _. ⌜ Chained (among (now (recs .entry)) lo hi) (length (now (recs .entry)) / 4) limit e (now (chain .exit)) ⌝ }
+{
+    let v = event_at(recs, e);
+    if (v.kind < lo) | (hi < v.kind) | (limit <= v.object) {
+        return;
+    }
+    let head = 1024 + (v.object as usize);
+    chain[e] = chain[head];
+    chain[head] = e as u16;
+}
+
+// Gathers the events of the kinds lo to hi in a chain for each object below `limit`, from the last event to the first.
+pub fn gather(recs: &[u8], lo: u8, hi: u8, limit: u16) -> [u16; 2048]
+    requires { ⌜ (length (now recs) ≤ 4096) × (limit ≤ 1024) ⌝ }
+    ensures { λ r. ⌜ Chained (among (now (recs .entry)) lo hi) (length (now (recs .entry)) / 4) limit 0 r ⌝ }
+{
+    let mut e = recs.len() / 4;
+    let none = e as u16;
+    let mut chain = [none; 2048];
+    while 0 < e {
+        e -= 1;
+        link(recs, lo, hi, limit, e, &mut chain);
+    }
+    chain
 }

@@ -1,4 +1,5 @@
 pub mod Each
+pub mod Chains
 pub mod Stores
 pub mod Order
 pub mod Race

@@ -55,6 +55,10 @@ stored-then {l} {m} {o} {at} es fs s t =
 pub stored-more : {l m o : List ℕ} {at p q : ℕ} (f : ℕ → List Entry) (i : ℕ) → Stored l at (each f i) m p → Stored m p (f i) o q → Stored l at (each f (i + 1)) o q
 stored-more f i s t = rw (each-more f i) (stored-then (each f i) (f i) s t)
 
+-- the parts from i on below m are empty
+pub stored-skip : {l o : List ℕ} {at p : ℕ} (f : ℕ → List Entry) (i m : ℕ) → each f m ≡ each f i → Stored l at (each f i) o p → Stored l at (each f m) o p
+stored-skip f i m e s = rw e s
+
 -- there is room for the part i where there is for the parts below n
 pub stored-room : {l m : List ℕ} {at p : ℕ} (f : ℕ → List Entry) (i n k : ℕ) → i < n → Stored l at (each f i) m p → at + 3 * length (each f n) ≤ k → p + 3 * length (f i) ≤ k
 stored-room f i n k h s r = omega (arith, s .next, each-count f i, each-longer f (i + 1) n (omega arith))

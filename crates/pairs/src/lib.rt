@@ -2,16 +2,14 @@
 ghost use mathlib.Core.Path.{_≡_};
 ghost use mathlib.Core.List.{[], _∷_};
 ghost use Prim.Native.Nat.{_+_, _*_, _≤_, _<_};
-ghost use mathlib.Core.Bool.{_&&_};
-ghost use lib.Dec.{eqb};
-ghost use lib.ListN.{length, getD};
+ghost use lib.ListN.{length};
 ghost use lib.Seq.{sets};
-ghost use Rattle.model.specs.Recording.{noEvent};
-ghost use Rattle.model.specs.File.{eventsOf, recordingBy};
+ghost use Rattle.model.specs.File.{recordingBy};
 ghost use Rattle.model.specs.Vectors.{Vectors, unordered};
 ghost use Rattle.model.specs.Pairs.{isAccess, isWrite, conflict, racePair, mark, entriesOf, cellEntries, entries};
 ghost use Rattle.passes.specs.Lent.{vectorsIn, Fitting, Numbered, Records, Placed};
-ghost use Rattle.pairs.specs.Lent.{over, Lent, pairAt, rowAt, Stored, Outcome, relationBy};
+ghost use Rattle.pairs.specs.Chains.{Chained, InChain};
+ghost use Rattle.pairs.specs.Lent.{over, Lent, pairAt, Stored, Outcome, relationBy};
 use model::Counts;
 use model::Event;
 use model::Relation;
@@ -39,15 +37,6 @@ pub fn conflict(v: Event, w: Event) -> bool
         & (v.object == w.object)
         & (v.task != w.task)
         & (is_write(v) | is_write(w))
-}
-
-// Whether event a reads or writes this cell.
-fn accesses(recs: &[u8], a: usize, cell: u16) -> bool
-    requires { ⌜ 4 * a + 3 < length (now recs) ⌝ }
-    ensures { λ r. ⌜ r ≡ (isAccess (getD (eventsOf (now (recs .entry))) a noEvent) && eqb (getD (eventsOf (now (recs .entry))) a noEvent .object) cell) ⌝ }
-{
-    let v = events::event_at(recs, a);
-    is_access(v) & (v.object == cell)
 }
 
 // Whether the vectors order neither event before the other.
@@ -99,57 +88,63 @@ fn count_pair(recs: &[u8], counts: Counts, at: &[u16], safe: &[u16], a: usize, b
     }
 }
 
-// How many entries have the lower event a.
-fn count_row(recs: &[u8], counts: Counts, at: &[u16], safe: &[u16], a: usize) -> usize
-    requires { ⌜ Placed (now recs) counts (now at) × Fitting (now recs) counts (now safe) × Numbered (now recs) a ⌝ }
+// How many entries have the lower event a, an access: those with the events behind it in its chain.
+fn count_row(
+    recs: &[u8],
+    counts: Counts,
+    at: &[u16],
+    chain: &[u16; 2048],
+    safe: &[u16],
+    a: usize,
+) -> usize
+    requires { ⌜ Placed (now recs) counts (now at) × Fitting (now recs) counts (now safe) ⌝ }
+    requires { ⌜ Chained (now recs) (counts .cells) (now chain) × InChain (now recs) (counts .cells) a ⌝ }
     ensures { λ r. ⌜ ((R : Vectors) → r ≡ length (entriesOf (recordingBy (now (recs .entry)) counts) (vectorsIn (now (recs .entry)) counts (now (safe .entry))) R a)) ⌝ }
 {
     let n = recs.len() / 4;
     let mut pairs: usize = 0;
-    let mut b = a + 1;
+    let mut b = chain[a] as usize;
     while b < n {
         pairs += count_pair(recs, counts, at, safe, a, b);
-        b += 1;
+        b = chain[b] as usize;
     }
     pairs
 }
 
-// The same where a accesses the cell; else 0. Only an access starts a row.
-fn count_access(recs: &[u8], counts: Counts, at: &[u16], safe: &[u16], cell: u16, a: usize) -> usize
-    requires { ⌜ Placed (now recs) counts (now at) × Fitting (now recs) counts (now safe) × Numbered (now recs) a ⌝ }
-    ensures { λ r. ⌜ ((R : Vectors) → r ≡ length (rowAt (recordingBy (now (recs .entry)) counts) (vectorsIn (now (recs .entry)) counts (now (safe .entry))) R cell a)) ⌝ }
-{
-    if !accesses(recs, a, cell) {
-        return 0;
-    }
-    count_row(recs, counts, at, safe, a)
-}
-
-// How many entries the cell has.
-fn count_cell(recs: &[u8], counts: Counts, at: &[u16], safe: &[u16], cell: u16) -> usize
+// How many entries the cell has: those of the events in its chain.
+fn count_cell(
+    recs: &[u8],
+    counts: Counts,
+    at: &[u16],
+    chain: &[u16; 2048],
+    safe: &[u16],
+    cell: u16,
+) -> usize
     requires { ⌜ Placed (now recs) counts (now at) × Fitting (now recs) counts (now safe) ⌝ }
+    requires { ⌜ Chained (now recs) (counts .cells) (now chain) × (cell < counts .cells) × (counts .cells ≤ 1024) ⌝ }
     ensures { λ r. ⌜ ((R : Vectors) → r ≡ length (cellEntries (recordingBy (now (recs .entry)) counts) (vectorsIn (now (recs .entry)) counts (now (safe .entry))) R cell)) ⌝ }
 {
     let n = recs.len() / 4;
     let mut pairs: usize = 0;
-    let mut a = 0;
+    let mut a = chain[1024 + (cell as usize)] as usize;
     while a < n {
-        pairs += count_access(recs, counts, at, safe, cell, a);
-        a += 1;
+        pairs += count_row(recs, counts, at, chain, safe, a);
+        a = chain[a] as usize;
     }
     pairs
 }
 
 // How many entries the list has.
-fn count(recs: &[u8], counts: Counts, at: &[u16], safe: &[u16]) -> usize
-    requires { ⌜ Placed (now recs) counts (now at) × Fitting (now recs) counts (now safe) × (counts .cells ≤ 1024) ⌝ }
+fn count(recs: &[u8], counts: Counts, at: &[u16], chain: &[u16; 2048], safe: &[u16]) -> usize
+    requires { ⌜ Placed (now recs) counts (now at) × Fitting (now recs) counts (now safe) ⌝ }
+    requires { ⌜ Chained (now recs) (counts .cells) (now chain) × (counts .cells ≤ 1024) ⌝ }
     ensures { λ r. ⌜ ((R : Vectors) → r ≡ length (entries (recordingBy (now (recs .entry)) counts) (vectorsIn (now (recs .entry)) counts (now (safe .entry))) R)) ⌝ }
 {
     let cells = counts.cells;
     let mut pairs: usize = 0;
     let mut cell: u16 = 0;
     while cell < cells {
-        pairs += count_cell(recs, counts, at, safe, cell);
+        pairs += count_cell(recs, counts, at, chain, safe, cell);
         cell += 1;
     }
     pairs
@@ -189,51 +184,30 @@ fn list_pair(
     p + 3
 }
 
-// Writes the entries with the lower event a from place p on. Answers the place after them.
+// Writes the entries with the lower event a, an access, from place p on. Answers the place after them.
 fn list_row(
     recs: &[u8],
     counts: Counts,
     at: &[u16],
+    chain: &[u16; 2048],
     safe: &[u16],
     recorded: &[u16],
     a: usize,
     out: &mut [u16],
     p: usize,
 ) -> usize
-    requires { ⌜ Lent (now recs) counts (now at) (now safe) (now recorded) × Numbered (now recs) a ⌝ }
+    requires { ⌜ Lent (now recs) counts (now at) (now safe) (now recorded) × Chained (now recs) (counts .cells) (now chain) × InChain (now recs) (counts .cells) a ⌝ }
     requires { ⌜ p + 3 * length (over entriesOf (now recs) counts (now safe) (now recorded) a) ≤ length (now out) ⌝ }
     ensures { λ r. ⌜ Stored (now (out .entry)) p (over entriesOf (now (recs .entry)) counts (now (safe .entry)) (now (recorded .entry)) a) (now (out .exit)) r ⌝ }
 {
     let n = recs.len() / 4;
     let mut next = p;
-    let mut b = a + 1;
+    let mut b = chain[a] as usize;
     while b < n {
         next = list_pair(recs, counts, at, safe, recorded, a, b, out, next);
-        b += 1;
+        b = chain[b] as usize;
     }
     next
-}
-
-// The same where a accesses the cell; else nothing is written.
-fn list_access(
-    recs: &[u8],
-    counts: Counts,
-    at: &[u16],
-    safe: &[u16],
-    recorded: &[u16],
-    cell: u16,
-    a: usize,
-    out: &mut [u16],
-    p: usize,
-) -> usize
-    requires { ⌜ Lent (now recs) counts (now at) (now safe) (now recorded) × Numbered (now recs) a ⌝ }
-    requires { ⌜ p + 3 * length (over rowAt (now recs) counts (now safe) (now recorded) cell a) ≤ length (now out) ⌝ }
-    ensures { λ r. ⌜ Stored (now (out .entry)) p (over rowAt (now (recs .entry)) counts (now (safe .entry)) (now (recorded .entry)) cell a) (now (out .exit)) r ⌝ }
-{
-    if !accesses(recs, a, cell) {
-        return p;
-    }
-    list_row(recs, counts, at, safe, recorded, a, out, p)
 }
 
 // Writes the entries of a cell from place p on. Answers the place after them.
@@ -241,22 +215,23 @@ fn list_cell(
     recs: &[u8],
     counts: Counts,
     at: &[u16],
+    chain: &[u16; 2048],
     safe: &[u16],
     recorded: &[u16],
     cell: u16,
     out: &mut [u16],
     p: usize,
 ) -> usize
-    requires { ⌜ Lent (now recs) counts (now at) (now safe) (now recorded) ⌝ }
+    requires { ⌜ Lent (now recs) counts (now at) (now safe) (now recorded) × Chained (now recs) (counts .cells) (now chain) × (cell < counts .cells) ⌝ }
     requires { ⌜ p + 3 * length (over cellEntries (now recs) counts (now safe) (now recorded) cell) ≤ length (now out) ⌝ }
     ensures { λ r. ⌜ Stored (now (out .entry)) p (over cellEntries (now (recs .entry)) counts (now (safe .entry)) (now (recorded .entry)) cell) (now (out .exit)) r ⌝ }
 {
     let n = recs.len() / 4;
     let mut next = p;
-    let mut a = 0;
+    let mut a = chain[1024 + (cell as usize)] as usize;
     while a < n {
-        next = list_access(recs, counts, at, safe, recorded, cell, a, out, next);
-        a += 1;
+        next = list_row(recs, counts, at, chain, safe, recorded, a, out, next);
+        a = chain[a] as usize;
     }
     next
 }
@@ -266,12 +241,13 @@ fn list_all(
     recs: &[u8],
     counts: Counts,
     at: &[u16],
+    chain: &[u16; 2048],
     safe: &[u16],
     recorded: &[u16],
     out: &mut [u16],
     p: usize,
 ) -> usize
-    requires { ⌜ Lent (now recs) counts (now at) (now safe) (now recorded) ⌝ }
+    requires { ⌜ Lent (now recs) counts (now at) (now safe) (now recorded) × Chained (now recs) (counts .cells) (now chain) ⌝ }
     requires { ⌜ p + 3 * length (over entries (now recs) counts (now safe) (now recorded)) ≤ length (now out) ⌝ }
     ensures { λ r. ⌜ Stored (now (out .entry)) p (over entries (now (recs .entry)) counts (now (safe .entry)) (now (recorded .entry))) (now (out .exit)) r ⌝ }
 {
@@ -279,7 +255,7 @@ fn list_all(
     let mut next = p;
     let mut cell: u16 = 0;
     while cell < cells {
-        next = list_cell(recs, counts, at, safe, recorded, cell, out, next);
+        next = list_cell(recs, counts, at, chain, safe, recorded, cell, out, next);
         cell += 1;
     }
     next
@@ -291,23 +267,24 @@ pub struct Listed {
     pub pairs: usize,
 }
 
-// The same as `list`, with the positions at hand: counts first, so that nothing is written where there is no room.
+// The same as `list`, with the positions and the chains at hand: counts first, so that nothing is written where there is no room.
 fn list_placed(
     recs: &[u8],
     counts: Counts,
     at: &[u16],
+    chain: &[u16; 2048],
     safe: &[u16],
     recorded: &[u16],
     out: &mut [u16],
 ) -> Listed
-    requires { ⌜ Lent (now recs) counts (now at) (now safe) (now recorded) ⌝ }
+    requires { ⌜ Lent (now recs) counts (now at) (now safe) (now recorded) × Chained (now recs) (counts .cells) (now chain) ⌝ }
     ensures { λ r. ⌜ Outcome (over entries (now (recs .entry)) counts (now (safe .entry)) (now (recorded .entry))) (now (out .entry)) (now (out .exit)) (r .fits) (r .pairs) ⌝ }
 {
-    let pairs = count(recs, counts, at, safe);
+    let pairs = count(recs, counts, at, chain, safe);
     if out.len() < 3 * pairs {
         return Listed { fits: false, pairs };
     }
-    list_all(recs, counts, at, safe, recorded, out, 0);
+    list_all(recs, counts, at, chain, safe, recorded, out, 0);
     Listed { fits: true, pairs }
 }
 
@@ -318,7 +295,8 @@ pub fn list(recs: &[u8], counts: Counts, safe: &[u16], recorded: &[u16], out: &m
 {
     let mut at = [0u16; 1024];
     events::positions(recs, &mut at);
-    list_placed(recs, counts, &at, safe, recorded, out)
+    let chain = events::gather(recs, 5, 6, counts.cells);
+    list_placed(recs, counts, &at, &chain, safe, recorded, out)
 }
 
 // The same as `relation`, with the positions at hand.

@@ -4,3 +4,4 @@ pub mod Waits
 pub mod Searches
 pub mod Starts
 pub mod Runs
+pub mod Matching

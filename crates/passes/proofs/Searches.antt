@@ -1,22 +1,19 @@
 -- What the searches over the records find: below which number it lies, and the signal that matches a wait.
 -- Assumes nothing.
-use Prim.Native.Nat.{ℕ, zero, suc, _+_, _≤_, _<_}
+use Prim.Native.Nat.{ℕ, _≤_, _<_}
 use mathlib.Core.Path.{_≡_, refl, sym, ap, ap₂, subst, _∙_}
 use mathlib.Core.Bool.{Bool, true}
-use mathlib.Core.List.{List}
 use native.Mathlib.Omega.{arith}
-use lib.ListN.{length, getD, take}
 use Rattle.model.specs.declared.Event.{Event}
 use Rattle.model.specs.declared.Found.{Found}
-use Rattle.model.specs.Numbers.{bit, sum, tally, count, picked, lastOf, nth}
-use Rattle.model.specs.Recording.{Recording, size, event, noEvent, taskOf, kindOf, objectOf, ofTask, isOn}
+use Rattle.model.specs.Numbers.{sum, tally, picked, lastOf, nth}
+use Rattle.model.specs.Recording.{Recording, event, taskOf, kindOf, objectOf, ofTask}
 use Rattle.model.specs.Passes.{previous, signalsOn}
 use Rattle.model.specs.Recorded.{waitsBefore, matched}
 use Rattle.model.proofs.Tests.{eq-eqb, ne-eqb}
 use Rattle.model.proofs.Sum.{rank-rises, rank-same}
 use Rattle.model.proofs.Picked.{nth-of, nth-found}
 use Rattle.model.proofs.Sources.{last-some}
-use Rattle.events.proofs.Laws.{count-suc}
 use Rattle.passes.specs.Lent.{Below, firstFound}
 
 pub last-below : (p : ℕ → Bool) (n : ℕ) → Below n (lastOf p n)
@@ -61,18 +58,10 @@ pub tally-start : (p : ℕ → Bool) → tally p 0 ≡ 0
 unfolding sum
 tally-start p = refl
 
--- a count over the first events is a tally of their numbers
-pub count-tally : {A : Type 0} (p : A → Bool) (l : List A) (d : A) (n : ℕ) → n ≤ length l → count p (take n l) ≡ tally (λ a. p (getD l a d)) n
-unfolding sum count
-count-tally p l d zero h = refl
-count-tally p l d (suc n) h = count-suc p l d n h ∙ ap (λ (k : ℕ). k + bit (p (getD l n d))) (count-tally p l d n (omega arith))
-
 module _ (E : Recording) (e : ℕ) where
-  pub matched-wait : (k : ℕ) → kindOf E e ≡ 2 → e ≤ size E → k ≡ count (isOn 2 (objectOf E e)) (take e (E .events)) → nth (signalsOn E (objectOf E e)) k ≡ matched E e
+  pub matched-wait : kindOf E e ≡ 2 → nth (signalsOn E (objectOf E e)) (waitsBefore E e) ≡ matched E e
   unfolding matched
-  matched-wait k q h r =
-      let z : k ≡ waitsBefore E e = r ∙ count-tally (isOn 2 (objectOf E e)) (E .events) noEvent e h in
-      rw (eq-eqb (kindOf E e) 2 q) (ap (nth (signalsOn E (objectOf E e))) z)
+  matched-wait q = rw (eq-eqb (kindOf E e) 2 q)
 
   pub matched-other : (kindOf E e ≡ 2 → ⊥) → Found.Nothing ≡ matched E e
   unfolding matched

@@ -6,7 +6,7 @@ use mathlib.Core.List.{List}
 use lib.ListN.{length, getD}
 use Rattle.model.specs.declared.Counts.{Counts}
 use Rattle.model.specs.declared.Found.{Found}
-use Rattle.model.specs.Recording.{size, taskOf}
+use Rattle.model.specs.Recording.{size, taskOf, kindOf, objectOf}
 use Rattle.model.specs.File.{eventsOf, recordingBy}
 use Rattle.model.specs.Vectors.{Vectors, position}
 use Rattle.vectors.specs.Rows.{chunks, raisedAt}
@@ -23,11 +23,13 @@ Fitting s c v = length v ≡ size (recordingBy s c) * c .tasks
 abbrev pub Numbered : List ℕ → ℕ → Type 0
 Numbered s a = a < length (eventsOf s)
 
--- the record bytes s are whole records, at most 1,024, each of a task below the number of tasks
+-- the record bytes s are whole records, at most 1,024, each of a task below the number of tasks, and each wait on a
+-- semaphore below 64
 pub record Records (s : List ℕ) (c : Counts) : Type 0 where
   pub whole : length s ≡ 4 * size (recordingBy s c)
   pub few : size (recordingBy s c) ≤ 1024
   pub named : (e : ℕ) → e < size (recordingBy s c) → taskOf (recordingBy s c) e < c .tasks
+  pub waits : (e : ℕ) → e < size (recordingBy s c) → kindOf (recordingBy s c) e ≡ 2 → objectOf (recordingBy s c) e < 64
 
 -- and `at` has the positions of their events
 pub record Placed (s : List ℕ) (c : Counts) (at : List ℕ) : Type 0 where

@@ -6,14 +6,14 @@ ghost use lib.Dec.{eqb};
 ghost use lib.ListN.{length, getD, drop};
 ghost use lib.Seq.{sets};
 ghost use Rattle.model.specs.declared.Counts.{Counts};
-ghost use Rattle.model.specs.Numbers.{nth};
 ghost use Rattle.model.specs.Recording.{noEvent, size, taskOf, kindOf, isOn};
 ghost use Rattle.model.specs.File.{eventsOf, recordingBy};
 ghost use Rattle.model.specs.Vectors.{flat, start, ordered};
-ghost use Rattle.model.specs.Passes.{previous, forkOf, joinSources, stepOne, signalsOn, kOf, pass, run};
+ghost use Rattle.model.specs.Passes.{previous, forkOf, joinSources, stepOne, kOf, pass, run};
 ghost use Rattle.model.specs.Recorded.{matched, recorded};
 ghost use Rattle.vectors.specs.Rows.{Rose};
 ghost use Rattle.passes.specs.Lent.{vectorsIn, Fitting, Numbered, Records, Placed, firstFound, Below, Inside, raisedFound};
+ghost use Rattle.passes.specs.Matching.{Matching};
 ghost use Rattle.passes.specs.Steps.{firstRow, taken, waitBefore, candidate, candidatesOn, waited, stepTwo, raisedEvent, recordedEvent};
 use model::Counts;
 use model::Found;
@@ -317,49 +317,34 @@ pub fn run(recs: &[u8], counts: Counts, budget: u32, v: &mut [u16]) -> Outcome
     passes(recs, counts, &at, budget, v)
 }
 
-// The k-th signal on semaphore s, from 0. It does not depend on the counts.
-fn nth_signal(recs: &[u8], s: u16, k: usize) -> Found
-    requires { ⌜ length (now recs) ≡ 4 * length (eventsOf (now recs)) ⌝ }
-    ensures { λ r. ⌜ ((c : Counts) → r ≡ nth (signalsOn (recordingBy (now (recs .entry)) c) s) k) ⌝ }
-    ensures { λ r. ⌜ Below (length (eventsOf (now (recs .entry)))) r ⌝ }
-{
-    let n = recs.len() / 4;
-    let mut seen = 0;
-    let mut a = 0;
-    while a < n {
-        if is_on(recs, a, 1, s) {
-            if seen == k {
-                return Found::At(a);
-            }
-            seen += 1;
-        }
-        a += 1;
-    }
-    Found::Nothing
-}
-
-// For the k-th wait on a semaphore, the k-th signal on it. It does not depend on the counts.
-fn matched(recs: &[u8], e: usize) -> Found
-    requires { ⌜ (length (now recs) ≡ 4 * length (eventsOf (now recs))) × Numbered (now recs) e ⌝ }
-    ensures { λ r. ⌜ ((c : Counts) → r ≡ matched (recordingBy (now (recs .entry)) c) e) ⌝ }
-    ensures { λ r. ⌜ Below (length (eventsOf (now (recs .entry)))) r ⌝ }
+// The signal that event e is matched with: for a wait the one at hand on its semaphore, and then the next one is at hand.
+fn take_signal(recs: &[u8], counts: Counts, e: usize, chain: &mut [u16; 2048]) -> Found
+    requires { ⌜ Records (now recs) counts × Numbered (now recs) e × Matching (now recs) e (now chain) ⌝ }
+    ensures { λ r. ⌜ (r ≡ matched (recordingBy (now (recs .entry)) counts) e) × Below (length (eventsOf (now (recs .entry)))) r ⌝ }
+    ensures { λ _. ⌜ Matching (now (recs .entry)) (e + 1) (now (chain .exit)) ⌝ }
 {
     let w = events::event_at(recs, e);
     if w.kind != 2 {
         return Found::Nothing;
     }
-    let k = events::count_on(recs, e, 2, w.object);
-    nth_signal(recs, w.object, k)
+    let head = 1024 + (w.object as usize);
+    let a = chain[head] as usize;
+    if recs.len() / 4 <= a {
+        return Found::Nothing;
+    }
+    chain[head] = chain[a];
+    Found::At(a)
 }
 
 // Makes the recorded vector of event e: step 1, and for a wait the matched signal.
-fn record_event(recs: &[u8], counts: Counts, e: usize, v: &mut [u16])
-    requires { ⌜ Records (now recs) counts × Fitting (now recs) counts (now v) × Numbered (now recs) e ⌝ }
+fn record_event(recs: &[u8], counts: Counts, e: usize, chain: &mut [u16; 2048], v: &mut [u16])
+    requires { ⌜ Records (now recs) counts × Fitting (now recs) counts (now v) × Numbered (now recs) e × Matching (now recs) e (now chain) ⌝ }
     ensures { λ _. ⌜ vectorsIn (now (recs .entry)) counts (now (v .exit))
         ≡ recordedEvent (recordingBy (now (recs .entry)) counts) (vectorsIn (now (recs .entry)) counts (now (v .entry))) e ⌝ }
+    ensures { λ _. ⌜ Matching (now (recs .entry)) (e + 1) (now (chain .exit)) ⌝ }
 {
     step_one(recs, counts, e, v);
-    let signal = matched(recs, e);
+    let signal = take_signal(recs, counts, e, chain);
     let tasks = counts.tasks as usize;
     raise_found(v, e, tasks, signal);
 }
@@ -371,9 +356,10 @@ fn record_all(recs: &[u8], counts: Counts, at: &[u16], v: &mut [u16])
 {
     let n = recs.len() / 4;
     start(recs, counts, at, v);
+    let mut chain = events::gather(recs, 1, 1, 64);
     let mut e = 0;
     while e < n {
-        record_event(recs, counts, e, v);
+        record_event(recs, counts, e, &mut chain, v);
         e += 1;
     }
 }

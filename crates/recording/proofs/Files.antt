@@ -2,10 +2,10 @@
 use mathlib.Core.Path.{_≡_, refl, sym}
 use mathlib.Core.Bool.{true, false}
 use mathlib.Core.List.{List, []}
-use Prim.Native.Nat.{ℕ, _+_, _*_, _-_, _≤_, _<_}
+use Prim.Native.Nat.{ℕ, _+_, _*_, _≤_, _<_}
 use native.Mathlib.Omega.{arith}
 use borrow.Author.Tests.{le-leb, lt-leb, eq-eqb, ne-eqb}
-use lib.ListN.{length, take, drop, length-take, length-drop}
+use lib.ListN.{length, take, length-take, length-drop}
 use Rattle.model.specs.declared.Header.{Header}
 use Rattle.model.specs.declared.Refusal.{Refusal}
 use Rattle.model.specs.declared.Check.{Check}
@@ -17,11 +17,6 @@ use Rattle.model.proofs.Files.{events-length, sound, reading-passed}
 
 -- ---- the records' part
 
--- as the code cuts it
-pub part-is : (f : List ℕ) (h : Header) → take (h .start + 4 * h .records - h .start) (drop (h .start) f) ≡ recordBytes f h
-unfolding recordBytes
-part-is f h = let e : h .start + 4 * h .records - h .start ≡ 4 * h .records = omega arith in rw e
-
 pub part-length : (f : List ℕ) (h : Header) → h .start + 4 * h .records ≤ length f → length (recordBytes f h) ≡ 4 * h .records
 unfolding recordBytes
 part-length f h l = simp (length-take, length-drop) (omega arith)
@@ -30,14 +25,14 @@ recording-is : (f : List ℕ) → recordingOf f ≡ recordingBy (recordBytes f (
 unfolding recordingOf
 recording-is f = refl
 
--- the check of the records, as the code cuts them
+-- the check of the records
 same-check : (f : List ℕ) (h : Header) → h ≡ headerOf f → h .start + 4 * h .records ≤ length f → (x : Check)
-    → x ≡ firstFault (recordingBy (take (h .start + 4 * h .records - h .start) (drop (h .start) f)) (h .counts)) (h .records)
+    → x ≡ firstFault (recordingBy (recordBytes f h) (h .counts)) (h .records)
     → firstFault (recordingOf f) (size (recordingOf f)) ≡ x
 same-check f h q l x p =
     let e = part-length f h l in
     let n : length (eventsOf (recordBytes f h)) ≡ h .records = omega (arith, events-length (recordBytes f h)) in
-    rw (recording-is f, ← q, n, ← part-is f h) (sym p)
+    rw (recording-is f, ← q, n) (sym p)
 
 -- ---- the tests in their order
 
@@ -70,7 +65,7 @@ module _ (f : List ℕ) where
         out-of-range e = rw (le-leb 16 (length f) a, eq-eqb (editionOf f) 1 b, ← q, eq-eqb (h .start + 4 * h .records) (trailer f) d, e)
 
         pub by-records : inRange (h .counts) (h .records) ≡ true → (x : Check)
-            → x ≡ firstFault (recordingBy (take (h .start + 4 * h .records - h .start) (drop (h .start) f)) (h .counts)) (h .records)
+            → x ≡ firstFault (recordingBy (recordBytes f h) (h .counts)) (h .records)
             → fileCheck f ≡ x
         unfolding fileCheck extentMet
         by-records e x p =
@@ -102,9 +97,9 @@ module _ (f : List ℕ) (h : Header) (q : readingOf f ≡ Reading.Accepted h) wh
   unfolding preambleOf
   the-preamble = let (e, p) = accepted-is f h q in rw (p, e)
 
-  pub the-records : take (h .start + 4 * h .records - h .start) (drop (h .start) f) ≡ recordsOf f
+  pub the-records : recordBytes f h ≡ recordsOf f
   unfolding recordsOf
-  the-records = let (e, p) = accepted-is f h q in rw (part-is f h, p, e)
+  the-records = let (e, p) = accepted-is f h q in rw (p, e)
 
 module _ (f : List ℕ) (r : Refusal) (q : readingOf f ≡ Reading.Refused r) where
   pub no-preamble : [] ≡ preambleOf f

@@ -48,16 +48,14 @@ pub fn read(file: &[u8]) -> Reading
         return Reading::Refused(Refusal::Edition);
     }
     let h = header_of(file);
-    let start = h.start;
-    let end = start + 4 * h.records;
-    if end != t {
+    if h.start + 4 * h.records != t {
         return Reading::Refused(Refusal::Extent);
     }
     let counts = h.counts;
     if !in_range(counts, h.records) {
         return Reading::Refused(Refusal::Count);
     }
-    match first_fault(&file[start..end], counts, h.records) {
+    match first_fault(events::records_of(file, h), counts, h.records) {
         Check::Passed => Reading::Accepted(h),
         Check::Failed(r) => Reading::Refused(r),
     }
@@ -81,11 +79,7 @@ pub fn records(file: &[u8]) -> &[u8]
     ensures { λ r. ⌜ now r ≡ recordsOf (now (file .entry)) ⌝ }
 {
     match read(file) {
-        Reading::Accepted(h) => {
-            let start = h.start;
-            let stop = start + 4 * h.records;
-            &file[start..stop]
-        }
+        Reading::Accepted(h) => events::records_of(file, h),
         Reading::Refused(_) => &file[..0],
     }
 }

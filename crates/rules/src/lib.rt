@@ -1,11 +1,14 @@
 // The record check, the same for reading and writing: what a record must obey after those before it, and the first that does not.
 ghost use mathlib.Core.Path.{_≡_};
-ghost use Prim.Native.Nat.{_+_, _*_, _≤_};
-ghost use lib.Dec.{eqb};
-ghost use lib.ListN.{length, take};
+ghost use mathlib.Core.Bool.{true};
+ghost use mathlib.Core.List.{List};
+ghost use Prim.Native.Nat.{ℕ, _+_, _*_, _≤_, _<_};
+ghost use lib.ListN.{length};
+ghost use Rattle.model.specs.declared.Event.{Event};
 ghost use Rattle.model.specs.Numbers.{count};
 ghost use Rattle.model.specs.Recording.{
   ofTask,
+  isOn,
   classOf,
   namesOf,
   knownKind,
@@ -17,13 +20,13 @@ ghost use Rattle.model.specs.Recording.{
   recordCheck,
   firstFault,
 };
-ghost use Rattle.model.specs.File.{eventsOf, recordingBy};
+ghost use Rattle.model.specs.File.{recordingBy};
 ghost use Rattle.model.specs.Reading.{inRange};
+ghost use Rattle.rules.specs.Running.{Few, Small, Running, Room, notedOn, notedOwn};
 use model::Check;
 use model::Class;
 use model::Counts;
 use model::Event;
-use model::Found;
 use model::Refusal;
 
 const SIGNAL: u8 = 1;
@@ -106,21 +109,26 @@ fn is_named(counts: Counts, v: Event) -> bool
     false
 }
 
-// Whether none of the first n events is this task's.
-fn no_record(recs: &[u8], n: usize, task: u16) -> bool
-    requires { ⌜ 4 * n ≤ length (now recs) ⌝ }
-    ensures { λ r. ⌜ r ≡ eqb (count (ofTask task) (take n (eventsOf (now (recs .entry))))) 0 ⌝ }
+// How many events of this kind on this object there have been.
+fn count_on(on: &[u16; 320], kind: u8, object: u16) -> u16
+    requires { ⌜ (kind < 5) × (object < 64) ⌝ }
+    ensures { λ r. ⌜ ((before : List Event) (own : List ℕ) → Running before (now (on .entry)) own → r ≡ count (isOn kind object) before) ⌝ }
 {
-    match events::task_before(recs, n, task) {
-        Found::At(_) => false,
-        Found::Nothing => true,
-    }
+    on[64 * (kind as usize) + (object as usize)]
 }
 
-// Whether the event, after the first n, keeps the rule on forks.
-fn fork_kept(recs: &[u8], n: usize, v: Event) -> bool
-    requires { ⌜ 4 * n ≤ length (now recs) ⌝ }
-    ensures { λ r. ⌜ r ≡ forkKept (take n (eventsOf (now (recs .entry)))) v ⌝ }
+// How many events of this task there have been.
+fn count_own(own: &[u16; 64], task: u16) -> u16
+    requires { ⌜ task < 64 ⌝ }
+    ensures { λ r. ⌜ ((before : List Event) (on : List ℕ) → Running before on (now (own .entry)) → r ≡ count (ofTask task) before) ⌝ }
+{
+    own[task as usize]
+}
+
+// Whether the event keeps the rule on forks.
+fn fork_kept(on: &[u16; 320], own: &[u16; 64], v: Event) -> bool
+    requires { ⌜ Small v ⌝ }
+    ensures { λ r. ⌜ ((before : List Event) → Running before (now (on .entry)) (now (own .entry)) → r ≡ forkKept before v) ⌝ }
 {
     if v.kind != FORK {
         return true;
@@ -128,16 +136,16 @@ fn fork_kept(recs: &[u8], n: usize, v: Event) -> bool
     if v.object == v.task as u16 {
         return false;
     }
-    if events::count_on(recs, n, FORK, v.object) != 0 {
+    if count_on(on, FORK, v.object) != 0 {
         return false;
     }
-    no_record(recs, n, v.object)
+    count_own(own, v.object) == 0
 }
 
 // The same for the rule on joins.
-fn join_kept(recs: &[u8], n: usize, v: Event) -> bool
-    requires { ⌜ 4 * n ≤ length (now recs) ⌝ }
-    ensures { λ r. ⌜ r ≡ joinKept (take n (eventsOf (now (recs .entry)))) v ⌝ }
+fn join_kept(on: &[u16; 320], v: Event) -> bool
+    requires { ⌜ Small v ⌝ }
+    ensures { λ r. ⌜ ((before : List Event) (own : List ℕ) → Running before (now (on .entry)) own → r ≡ joinKept before v) ⌝ }
 {
     if v.kind != JOIN {
         return true;
@@ -145,41 +153,41 @@ fn join_kept(recs: &[u8], n: usize, v: Event) -> bool
     if v.object == v.task as u16 {
         return false;
     }
-    if events::count_on(recs, n, FORK, v.object) == 0 {
+    if count_on(on, FORK, v.object) == 0 {
         return false;
     }
-    events::count_on(recs, n, JOIN, v.object) == 0
+    count_on(on, JOIN, v.object) == 0
 }
 
 // The same for the three rules on a task's life.
-fn life_kept(recs: &[u8], n: usize, v: Event) -> bool
-    requires { ⌜ 4 * n ≤ length (now recs) ⌝ }
-    ensures { λ r. ⌜ r ≡ lifeKept (take n (eventsOf (now (recs .entry)))) v ⌝ }
+fn life_kept(on: &[u16; 320], own: &[u16; 64], v: Event) -> bool
+    requires { ⌜ Small v ⌝ }
+    ensures { λ r. ⌜ ((before : List Event) → Running before (now (on .entry)) (now (own .entry)) → r ≡ lifeKept before v) ⌝ }
 {
-    if events::count_on(recs, n, JOIN, v.task as u16) != 0 {
+    if count_on(on, JOIN, v.task as u16) != 0 {
         return false;
     }
-    if fork_kept(recs, n, v) {
-        return join_kept(recs, n, v);
+    if fork_kept(on, own, v) {
+        return join_kept(on, v);
     }
     false
 }
 
 // The same for the rule on waits.
-fn wait_kept(recs: &[u8], n: usize, v: Event) -> bool
-    requires { ⌜ 4 * n ≤ length (now recs) ⌝ }
-    ensures { λ r. ⌜ r ≡ waitKept (take n (eventsOf (now (recs .entry)))) v ⌝ }
+fn wait_kept(on: &[u16; 320], v: Event) -> bool
+    requires { ⌜ Small v ⌝ }
+    ensures { λ r. ⌜ ((before : List Event) (own : List ℕ) → Running before (now (on .entry)) own → r ≡ waitKept before v) ⌝ }
 {
     if v.kind != WAIT {
         return true;
     }
-    events::count_on(recs, n, WAIT, v.object) < events::count_on(recs, n, SIGNAL, v.object)
+    count_on(on, WAIT, v.object) < count_on(on, SIGNAL, v.object)
 }
 
-// Checks the event v after the first n, as record n.
-fn record_check(recs: &[u8], counts: Counts, n: usize, v: Event) -> Check
-    requires { ⌜ 4 * n ≤ length (now recs) ⌝ }
-    ensures { λ r. ⌜ r ≡ recordCheck counts (take n (eventsOf (now (recs .entry)))) v ⌝ }
+// Checks the event v as record n.
+fn record_check(on: &[u16; 320], own: &[u16; 64], counts: Counts, n: usize, v: Event) -> Check
+    requires { ⌜ Few counts ⌝ }
+    ensures { λ r. ⌜ ((before : List Event) → Running before (now (on .entry)) (now (own .entry)) → length before ≡ n → r ≡ recordCheck counts before v) ⌝ }
 {
     if !known_kind(v) {
         return Check::Failed(Refusal::Kind(n));
@@ -187,26 +195,44 @@ fn record_check(recs: &[u8], counts: Counts, n: usize, v: Event) -> Check
     if !is_named(counts, v) {
         return Check::Failed(Refusal::Name(n));
     }
-    if !life_kept(recs, n, v) {
+    if !life_kept(on, own, v) {
         return Check::Failed(Refusal::Life(n));
     }
-    if !wait_kept(recs, n, v) {
+    if !wait_kept(on, v) {
         return Check::Failed(Refusal::Empty(n));
     }
     Check::Passed
 }
 
+// Adds the event to the counts of its kind and object, and to those of its task.
+fn note(on: &mut [u16; 320], own: &mut [u16; 64], v: Event)
+    requires { ⌜ Small v × Room (now on) (now own) v ⌝ }
+    ensures { λ _. ⌜ now (on .exit) ≡ notedOn (now (on .entry)) v ⌝ }
+    ensures { λ _. ⌜ now (own .exit) ≡ notedOwn (now (own .entry)) v ⌝ }
+{
+    let task = v.task as usize;
+    own[task] += 1;
+    if v.kind < 5 {
+        let at = 64 * (v.kind as usize) + (v.object as usize);
+        on[at] += 1;
+    }
+}
+
 // The first faulty record among the first n.
 pub fn first_fault(recs: &[u8], counts: Counts, n: usize) -> Check
-    requires { ⌜ 4 * n ≤ length (now recs) ⌝ }
+    requires { ⌜ (4 * n ≤ length (now recs)) × (inRange counts n ≡ true) ⌝ }
     ensures { λ r. ⌜ r ≡ firstFault (recordingBy (now (recs .entry)) counts) n ⌝ }
 {
+    let mut on = [0u16; 320];
+    let mut own = [0u16; 64];
     let mut i = 0;
     while i < n {
-        let check = record_check(recs, counts, i, events::event_at(recs, i));
+        let v = events::event_at(recs, i);
+        let check = record_check(&on, &own, counts, i, v);
         if let Check::Failed(r) = check {
             return Check::Failed(r);
         }
+        note(&mut on, &mut own, v);
         i += 1;
     }
     Check::Passed

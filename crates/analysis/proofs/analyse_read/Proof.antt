@@ -7,7 +7,7 @@ use borrow.Author.Tests.{not-true, not-false}
 use Rattle.model.specs.declared.Refusal.{Refusal}
 use Rattle.model.specs.declared.Analysis.{Analysis}
 use Rattle.analysis.specs.Lent.{Analysed}
-use Rattle.analysis.proofs.Accepted.{ready}
+use Rattle.analysis.proofs.Accepted.{inside, ready}
 use Rattle.analysis.proofs.Cases.{roomy, short-work, ended}
 use Rattle.analysis.proofs.analyse_read.Statement.{statement}
 use Rattle.analysis.proofs.analyse_read.Tie as tie
@@ -15,18 +15,18 @@ use Rattle.analysis.proofs.analyse_read.Tie as tie
 work-fits-requires : tie.Need-work-fits-requires
 work-fits-requires c κs =
     let s = c .before .before .before .before .before .before in
-    ready (s .args .file .now) (s .args .header) (s .pre) _ (c .before .before .records .ensures)
+    ready (s .args .file .now) (s .args .header) (s .pre) _ (c .before .before .records-of .ensures)
 
 returns : tie.Need-returns
 returns c =
     let s = c .before .before .before .before .before .before .before .before in
-    short-work (s .args .file .now) (s .args .header) (s .pre) _ (c .before .before .before .before .records .ensures) _ _ _
+    short-work (s .args .file .now) (s .args .header) (s .pre) _ (c .before .before .before .before .records-of .ensures) _ _ _
     (sym (c .before .work-fits .ensures) ∙ not-true _ (c .if1 .taken))
 
 fill-requires : tie.Need-fill-requires
 fill-requires c κs =
     let s = c .before .before .before .before .before .before .before .before .before in
-    let e = c .before .before .before .before .before .records .ensures in (
+    let e = c .before .before .before .before .before .records-of .ensures in (
       ready (s .args .file .now) (s .args .header) (s .pre) _ e,
       roomy (s .args .file .now) (s .args .header) (s .pre) _ e 0 (s .args .work .now) (sym (c .before .before .work-fits .ensures) ∙ not-false _ (c .before .if1 .left)),
     )
@@ -37,8 +37,8 @@ list-pairs-requires c κs =
     let t = k .before .before in
     let r = t .before .before .before .before in
     let s = r .before .before .before .before in
-    let room = roomy (s .args .file .now) (s .args .header) (s .pre) _ (r .records .ensures) 0 (s .args .work .now) (sym (t .before .work-fits .ensures) ∙ not-false _ (t .if1 .left)) in
-    (ready (s .args .file .now) (s .args .header) (s .pre) _ (r .records .ensures), omega (arith, room, k .fill .kept .1 .1 .1 .0))
+    let room = roomy (s .args .file .now) (s .args .header) (s .pre) _ (r .records-of .ensures) 0 (s .args .work .now) (sym (t .before .work-fits .ensures) ∙ not-false _ (t .if1 .left)) in
+    (ready (s .args .file .now) (s .args .header) (s .pre) _ (r .records-of .ensures), omega (arith, room, k .fill .kept .1 .1 .1 .0))
 
 -- the answer, by whether the list had room
 module _ (c : tie.After-list-pairs) where
@@ -48,7 +48,7 @@ module _ (c : tie.After-list-pairs) where
   abbrev t : tie.Else1
   t = k .before .before
 
-  abbrev r : tie.After-records
+  abbrev r : tie.After-records-of
   r = t .before .before .before .before
 
   abbrev s : tie.Start
@@ -59,7 +59,7 @@ module _ (c : tie.After-list-pairs) where
       (cond y (Analysis.Done (k .fill .result .passes) (k .fill .result .settled) (c .list-pairs .result .pairs)) (Analysis.Refused (Refusal.List (c .list-pairs .result .pairs))))
       (k .fill .last .1 .1 .1 .0) (c .list-pairs .last .1 .1 .1 .0)
   the-end =
-      ended (s .args .file .now) (s .args .header) (s .pre) _ (r .records .ensures) (s .args .budget) (s .args .work .now)
+      ended (s .args .file .now) (s .args .header) (s .pre) _ (r .records-of .ensures) (s .args .budget) (s .args .work .now)
       (sym (t .before .work-fits .ensures) ∙ not-false _ (t .if1 .left)) _ (k .fill .ensures .1) _ _ _ _ _ (k .fill .ensures .0 .0) (k .fill .ensures .0 .1) (c .list-pairs .ensures)
 
 returns-2 : tie.Need-returns-2
@@ -72,7 +72,7 @@ pub analyse-read-spec : {M : Type 1} → statement M
 analyse-read-spec =
     tie.close
     (tie.spec
-    (λ c κs. search needs)
+    (λ c κs. inside _ _ (c .before .before .before .pre))
     work-fits-requires
     (λ c. search needs)
     returns

@@ -10,7 +10,7 @@ use Rattle.pairs.proofs.count.Statement.{statement}
 use Rattle.pairs.proofs.count.Tie as tie
 
 abbrev Inv-loop : tie.InvT-loop
-Inv-loop recs counts at safe cells pairs₀ cell₀ pairs cell =
+Inv-loop recs counts at chain safe cells pairs₀ cell₀ pairs cell =
     (cells ≤ 1024)
     × (cell ≤ cells)
     × (cells ≡ counts .cells)
@@ -18,14 +18,14 @@ Inv-loop recs counts at safe cells pairs₀ cell₀ pairs cell =
     × Counted (λ R. cellEntries (recordingBy recs counts) (vectorsIn recs counts safe) R) cell pairs
 
 abbrev μ-loop : tie.MeasureT-loop
-μ-loop recs counts at safe cells pairs₀ cell₀ pairs cell = cells - cell
+μ-loop recs counts at chain safe cells pairs₀ cell₀ pairs cell = cells - cell
 
 loop-holds : tie.Need-loop-holds Inv-loop μ-loop
-loop-holds c = (c .before .before .before .pre .2, omega arith, refl, omega arith, count-none _)
+loop-holds c = (c .before .before .before .pre .1 .1, omega arith, refl, omega arith, count-none _)
 
 -- a cell has few entries
 few : (c : tie.After-count-cell Inv-loop μ-loop) → c .count-cell .result ≤ 1048576
-few c = cell-few _ _ _ (c .before .before .before .before .before .before .pre .0 .records .few) _ (c .count-cell .ensures)
+few c = cell-few _ _ _ (c .before .before .before .before .before .before .pre .0 .0 .records .few) _ (c .count-cell .ensures)
 
 loop-again : tie.Need-loop-again Inv-loop μ-loop
 loop-again c =
@@ -43,7 +43,7 @@ count-spec =
     Inv-loop
     μ-loop
     loop-holds
-    (λ c κs. let s = c .before .before .before .before .before in (s .pre .0, s .pre .1))
+    (λ c κs. let s = c .before .before .before .before .before in (s .pre .0, (s .pre .1 .0, omega arith, s .pre .1 .1)))
     (λ c. omega (arith, few c))
     (λ c. omega arith)
     (λ c. omega arith)

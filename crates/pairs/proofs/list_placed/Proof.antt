@@ -10,12 +10,12 @@ use Rattle.pairs.proofs.list_placed.Tie as tie
 count-requires : tie.Need-count-requires
 count-requires c κs =
     let s = c .before .before .before .before .before in
-    (s .pre .placed, s .pre .safe, s .pre .cells)
+    ((s .pre .0 .placed, s .pre .0 .safe), (s .pre .1, s .pre .0 .cells))
 
 mul-if1 : tie.Need-mul-if1
 mul-if1 c =
     let s = c .before .before .before .before .before .before in
-    omega (arith, list-few _ _ _ (s .pre .placed .records .few) (s .pre .cells) (c .count .ensures))
+    omega (arith, list-few _ _ _ (s .pre .0 .placed .records .few) (s .pre .0 .cells) (c .count .ensures))
 
 returns : tie.Need-returns
 returns c = refused _ _ _ (c .before .count .ensures _) (c .if1 .taken)

@@ -6,16 +6,24 @@ use Rattle.rules.proofs.fork_kept.Statement.{statement}
 use Rattle.rules.proofs.fork_kept.Tie as tie
 
 returns : tie.Need-returns
-returns c = simp (ne-eqb _ _ (c .if1 .taken))
+returns c before run = simp (ne-eqb _ _ (c .if1 .taken))
 
 returns-2 : tie.Need-returns-2
-returns-2 c = simp (eq-eqb _ _ (c .before .before .before .if1 .left), eq-eqb _ _ (c .if2 .taken))
+returns-2 c before run = simp (eq-eqb _ _ (c .before .before .before .if1 .left), eq-eqb _ _ (c .if2 .taken))
+
+count-on-requires : tie.Need-count-on-requires
+count-on-requires c κs = let k = c .before .before .before .if1 .left in (omega arith, c .before .before .before .before .before .pre .object (omega arith))
 
 returns-3 : tie.Need-returns-3
-returns-3 c = simp (eq-eqb _ _ (c .before .before .before .before .before .if1 .left), ne-eqb _ _ (c .before .before .if2 .left), ← c .before .count-on .ensures .0, ne-eqb _ _ (c .if3 .taken))
+returns-3 c before run =
+    simp (eq-eqb _ _ (c .before .before .before .before .before .if1 .left), ne-eqb _ _ (c .before .before .if2 .left), ← c .before .count-on .ensures before _ run, ne-eqb _ _ (c .if3 .taken))
+
+count-own-requires : tie.Need-count-own-requires
+count-own-requires c κs = let k = c .before .before .before .before .before .if1 .left in c .before .before .before .before .before .before .before .pre .object (omega arith)
 
 returns-4 : tie.Need-returns-4
-returns-4 c = simp (eq-eqb _ _ (c .before .before .before .before .before .before .if1 .left), ne-eqb _ _ (c .before .before .before .if2 .left), ← c .before .before .count-on .ensures .0, eq-eqb _ _ (c .before .if3 .left), ← c .no-record .ensures)
+returns-4 c before run =
+    simp (eq-eqb _ _ (c .before .before .before .before .before .before .if1 .left), ne-eqb _ _ (c .before .before .before .if2 .left), ← c .before .before .count-on .ensures before _ run, eq-eqb _ _ (c .before .if3 .left), ← c .count-own .ensures before _ run)
 
 pub fork-kept-spec : {M : Type 1} → statement M
 fork-kept-spec =
@@ -24,7 +32,7 @@ fork-kept-spec =
     returns
     (λ c. search needs)
     returns-2
-    (λ c κs. omega arith)
+    count-on-requires
     returns-3
-    (λ c κs. omega arith)
+    count-own-requires
     returns-4)

@@ -7,18 +7,25 @@ use Rattle.rules.proofs.join_kept.Statement.{statement}
 use Rattle.rules.proofs.join_kept.Tie as tie
 
 returns : tie.Need-returns
-returns c = simp (ne-eqb _ _ (c .if1 .taken))
+returns c before own run = simp (ne-eqb _ _ (c .if1 .taken))
 
 returns-2 : tie.Need-returns-2
-returns-2 c = simp (eq-eqb _ _ (c .before .before .before .if1 .left), eq-eqb _ _ (c .if2 .taken))
+returns-2 c before own run = simp (eq-eqb _ _ (c .before .before .before .if1 .left), eq-eqb _ _ (c .if2 .taken))
+
+count-on-requires : tie.Need-count-on-requires
+count-on-requires c κs = let k = c .before .before .before .if1 .left in (omega arith, c .before .before .before .before .before .pre .object (omega arith))
 
 returns-3 : tie.Need-returns-3
-returns-3 c = simp (eq-eqb _ _ (c .before .before .before .before .before .if1 .left), ne-eqb _ _ (c .before .before .if2 .left), ← c .before .count-on .ensures .0, c .if3 .taken)
+returns-3 c before own run =
+    simp (eq-eqb _ _ (c .before .before .before .before .before .if1 .left), ne-eqb _ _ (c .before .before .if2 .left), ← c .before .count-on .ensures before own run, c .if3 .taken)
+
+count-on-requires-2 : tie.Need-count-on-requires-2
+count-on-requires-2 c κs = let k = c .before .before .before .before .before .if1 .left in (omega arith, c .before .before .before .before .before .before .before .pre .object (omega arith))
 
 returns-4 : tie.Need-returns-4
-returns-4 c =
+returns-4 c before own run =
     let h : 0 < c .before .before .count-on .result = omega arith in
-    simp (eq-eqb _ _ (c .before .before .before .before .before .before .if1 .left), ne-eqb _ _ (c .before .before .before .if2 .left), ← c .before .before .count-on .ensures .0, lt-ltb _ _ h, ← c .count-on2 .ensures .0)
+    simp (eq-eqb _ _ (c .before .before .before .before .before .before .if1 .left), ne-eqb _ _ (c .before .before .before .if2 .left), ← c .before .before .count-on .ensures before own run, lt-ltb _ _ h, ← c .count-on2 .ensures before own run)
 
 pub join-kept-spec : {M : Type 1} → statement M
 join-kept-spec =
@@ -27,7 +34,7 @@ join-kept-spec =
     returns
     (λ c. search needs)
     returns-2
-    (λ c κs. omega arith)
+    count-on-requires
     returns-3
-    (λ c κs. omega arith)
+    count-on-requires-2
     returns-4)

@@ -1,11 +1,15 @@
 -- `recording::reading::read` meets its contract. Each return cites the law of the test that led to it. Assumes nothing.
 use native.Mathlib.Omega.{arith}
 use borrow.Author.Needs.{needs}
-use mathlib.Core.Path.{_≡_, sym, _∙_}
-use Rattle.model.specs.File.{editionOf}
+use mathlib.Core.Path.{_≡_, sym, ap, _∙_}
+use mathlib.Core.List.{List}
+use Prim.Native.Nat.{ℕ}
+use lib.ListN.{length}
+use Rattle.model.specs.Recording.{firstFault}
+use Rattle.model.specs.File.{editionOf, recordingBy}
 use Rattle.model.specs.Reading.{fileCheck}
 use Rattle.rules.proofs.Laws.{passed, failed}
-use Rattle.recording.proofs.Files.{refused-by, accepted-by, too-short, other-edition, no-extent, out-of-range, by-records}
+use Rattle.recording.proofs.Files.{refused-by, accepted-by, too-short, other-edition, no-extent, out-of-range, by-records, part-length}
 use Rattle.recording.proofs.reading.read.Statement.{statement}
 use Rattle.recording.proofs.reading.read.Tie as tie
 
@@ -15,14 +19,16 @@ unfolding editionOf
 edition c = sym (c .before .u16-at .ensures) ∙ c .if2 .left
 
 -- after the fourth the file's check is that of its records
-checked : (c : tie.After-first-fault) → fileCheck (c .before .before .before .before .before .before .before .before .before .before .before .before .args .file .now) ≡ c .first-fault .result
+checked : (c : tie.After-first-fault) → fileCheck (c .before .before .before .before .before .before .before .before .before .before .before .before .before .args .file .now) ≡ c .first-fault .result
 checked c =
-    let ranged = c .before .before in
+    let part = c .before in
+    let ranged = part .before in
     let met = ranged .before .before .before in
-    let header = met .before .before in
+    let header = met .before .before .before in
     let known = header .before in
     by-records _ (known .before .before .if1 .left) (edition known) _ (header .header-of .ensures .0) (met .if3 .left)
-    (passed (ranged .before .in-range .ensures) (ranged .if4 .left)) _ (c .first-fault .ensures)
+    (passed (ranged .before .in-range .ensures) (ranged .if4 .left)) _
+    (c .first-fault .ensures ∙ ap (λ (s : List ℕ). firstFault (recordingBy s (header .header-of .result .counts)) (header .header-of .result .records)) (part .records-of .ensures))
 
 returns : tie.Need-returns
 returns c = refused-by _ _ (too-short _ (c .if1 .taken))
@@ -33,21 +39,30 @@ returns-2 c = refused-by _ _ (other-edition _ (c .before .before .if1 .left) (λ
 
 returns-3 : tie.Need-returns-3
 returns-3 c =
-    let header = c .before .before in
+    let header = c .before .before .before in
     let known = header .before in
     refused-by _ _ (no-extent _ (known .before .before .if1 .left) (edition known) _ (header .header-of .ensures .0) (c .if3 .taken))
 
 returns-4 : tie.Need-returns-4
 returns-4 c =
     let met = c .before .before .before in
-    let header = met .before .before in
+    let header = met .before .before .before in
     let known = header .before in
     refused-by _ _
     (out-of-range _ (known .before .before .if1 .left) (edition known) _ (header .header-of .ensures .0) (met .if3 .left)
     (failed (c .before .in-range .ensures) (c .if4 .taken)))
 
+first-fault-requires : tie.Need-first-fault-requires
+first-fault-requires c κs =
+    let ranged = c .before in
+    let header = ranged .before .before .before .before .before .before in
+    let s = header .before .before .before .before .before in
+    (omega (arith, ap length (c .records-of .ensures), part-length (s .args .file .now) (header .header-of .result) (omega arith)), passed (ranged .before .in-range .ensures) (ranged .if4 .left))
+
 returns-5 : tie.Need-returns-5
-returns-5 c = accepted-by _ _ (c .before .before .before .before .before .before .before .before .before .header-of .ensures .0) (checked (c .before .before) ∙ c .enum-told .given .1)
+returns-5 c =
+    let fault = c .before .before in
+    accepted-by _ _ (fault .before .before .before .before .before .before .before .before .header-of .ensures .0) (checked fault ∙ c .enum-told .given .1)
 
 returns-6 : tie.Need-returns-6
 returns-6 c = refused-by _ _ (checked (c .before .before .before) ∙ c .before .r .given .1)
@@ -62,15 +77,13 @@ read-spec =
     (λ c κs. omega arith)
     returns-2
     (λ c κs. omega arith)
-    (λ c. omega arith)
-    (λ c. omega arith)
+    (λ c. search needs)
+    (λ c. search needs)
     returns-3
     (λ c κs. search needs)
     returns-4
-    (λ c. omega arith)
-    (λ c. omega arith)
-    (λ c. omega arith)
-    (λ c κs. omega arith)
+    (λ c κs. search needs)
+    first-fault-requires
     (λ c. search needs)
     (λ c. search needs)
     returns-5

@@ -12,17 +12,11 @@ use Rattle.recording.proofs.reading.records.Tie as tie
 accepted : (c : tie.After-h) → readingOf (c .before .before .before .before .args .file .now) ≡ Reading.Accepted (c .h .given .0 .0)
 accepted c = sym (c .before .before .read .ensures) ∙ c .h .given .1
 
-mul-stop : tie.Need-mul-stop
-mul-stop c = omega (arith, within _ _ (accepted (c .before .before)))
-
-add-stop : tie.Need-add-stop
-add-stop c = omega (arith, within _ _ (accepted (c .before .before)))
-
-part-result-end : tie.Need-part-result-end
-part-result-end c = omega (arith, within _ _ (accepted (c .before .before)))
+records-of-requires : tie.Need-records-of-requires
+records-of-requires c κs = omega (arith, within _ _ (accepted (c .before)))
 
 returns : tie.Need-returns
-returns c = the-records _ _ (accepted (c .before .before .before))
+returns c = c .records-of .ensures ∙ the-records _ _ (accepted (c .before .before))
 
 returns-2 : tie.Need-returns-2
 returns-2 c = no-records _ _ (sym (c .before .before .before .read .ensures) ∙ c .before .enum-told .given .1)
@@ -33,11 +27,7 @@ records-spec =
     (tie.spec
     (λ c κs. search needs)
     (λ c. search needs)
-    mul-stop
-    add-stop
-    (λ c. omega arith)
-    (λ c. omega arith)
-    part-result-end
+    records-of-requires
     (λ c. search needs)
     (λ c. search needs)
     returns

@@ -12,6 +12,9 @@ returns c = ragged _ _ (c .if1 .taken)
 returns-2 : tie.Need-returns-2
 returns-2 c = beyond _ _ (c .before .before .if1 .left) (failed (c .before .in-range .ensures) (c .if2 .taken))
 
+first-fault-requires : tie.Need-first-fault-requires
+first-fault-requires c κs = (omega arith, passed (c .before .in-range .ensures) (c .if2 .left))
+
 returns-3 : tie.Need-returns-3
 returns-3 c =
     by-rules _ _ (c .before .before .before .if1 .left) (passed (c .before .before .in-range .ensures) (c .before .if2 .left)) _
@@ -24,5 +27,5 @@ records-check-spec =
     returns
     (λ c κs. search needs)
     returns-2
-    (λ c κs. omega arith)
+    first-fault-requires
     returns-3)

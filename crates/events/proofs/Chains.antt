@@ -1,0 +1,127 @@
+-- Laws of the chains: how they start and go on by one event, and that they go by the test alone. Assumes nothing.
+use mathlib.Core.Path.{_≡_, refl, sym, _∙_}
+use mathlib.Core.Bool.{Bool, true, false, _&&_, _||_, true≢false}
+use mathlib.Core.Logic.{⊎-elim}
+use mathlib.Core.List.{List}
+use Prim.Native.Nat.{ℕ, _+_, _≤_, _<_}
+use native.Mathlib.Omega.{arith}
+use lib.Dec.{leb, ltb, eqb}
+use lib.ListN.{getD, set, replicate, length-set, length-replicate, getD-replicate}
+use lib.Seq.{getD-set-same, getD-set-other}
+use Rattle.model.specs.declared.Event.{Event}
+use Rattle.model.proofs.Tests.{cases, tests, clash, fails, both, second, either, all-three, leb-true, leb-false, ltb-true, ltb-false, eqb-true, le-leb, eq-eqb}
+use Rattle.events.specs.Chains.{isAmong, Nearest, head, Chained}
+
+-- over no event yet
+pub start : (p : ℕ → ℕ → Bool) (n k : ℕ) → k ≤ 1024 → Chained p n k n (replicate 2048 n)
+start p n k h =
+    record {
+      wide = length-replicate {A = ℕ} 2048 n;
+      heads = λ x l. rw (getD-replicate 2048 (head x) n 0 (omega arith)) (record { low = omega arith; high = omega arith; passed = λ i m o. absurd (omega arith); hit = λ o. absurd (omega arith) });
+      links = λ a x l m. absurd (omega arith);
+    }
+
+-- nearest from e on, where e is none
+nearest-more : (p : ℕ → Bool) (n e b : ℕ) → p e ≡ false → Nearest p n (e + 1) b → Nearest p n e b
+nearest-more p n e b h r =
+    record {
+      low = omega (arith, r .low);
+      high = r .high;
+      passed = λ i l m. cases (eqb i e) (λ t. let q : i ≡ e = omega tests in rw q h) (λ t. r .passed i (omega tests) m);
+      hit = r .hit;
+    }
+
+module _ (p : ℕ → ℕ → Bool) (n k e : ℕ) (chain : List ℕ) (c : Chained p n k (e + 1) chain) where
+  -- an event that stands in none of the chains
+  pub next-none : ((x : ℕ) → x < k → p x e ≡ false) → Chained p n k e chain
+  next-none h =
+      record {
+        wide = c .wide;
+        heads = λ x l. nearest-more (p x) n e _ (h x l) (c .heads x l);
+        links = λ a x l m o t. cases (eqb a e) (λ u. let q : a ≡ e = omega tests in clash t (rw q (h x o))) (λ u. c .links a x (omega tests) m o t);
+      }
+
+  -- an event that stands in the chain of y, and in no other
+  module _ (y : ℕ) (l : y < k) (f : k ≤ 1024) (g : n ≤ 1024) (w : e < n) (h : p y e ≡ true) (only : (x : ℕ) → p x e ≡ true → x ≡ y) where
+    abbrev joined : List ℕ
+    joined = set (set chain e (getD chain (head y) 0)) (head y) e
+
+    at-head : getD joined (head y) 0 ≡ e
+    at-head = getD-set-same (set chain e (getD chain (head y) 0)) (head y) e 0 (omega (arith, length-set chain e (getD chain (head y) 0), c .wide))
+
+    -- places behind those of the events
+    at-others : (x : ℕ) → (x ≡ y → ⊥) → getD joined (head x) 0 ≡ getD chain (head x) 0
+    at-others x o =
+        getD-set-other (set chain e (getD chain (head y) 0)) (head y) (head x) e 0 (λ q. o (omega arith))
+        ∙ getD-set-other chain e (head x) (getD chain (head y) 0) 0 (λ q. omega arith)
+
+    at-event : (a : ℕ) → a < 1024 → getD joined a 0 ≡ getD (set chain e (getD chain (head y) 0)) a 0
+    at-event a m = getD-set-other (set chain e (getD chain (head y) 0)) (head y) a e 0 (λ q. omega arith)
+
+    head-next : (x : ℕ) → x < k → Nearest (p x) n e (getD joined (head x) 0)
+    head-next x m =
+        cases (eqb x y)
+        (λ t. let q : x ≡ y = omega tests in rw (q, at-head) (record { low = omega arith; high = omega arith; passed = λ i a b. absurd (omega arith); hit = λ _. h }))
+        (λ t. rw (at-others x (λ q. omega tests)) (nearest-more (p x) n e (getD chain (head x) 0) (fails (p x e) (λ u. let q = only x u in omega tests)) (c .heads x m)))
+
+    link-next : (a x : ℕ) → e ≤ a → a < n → x < k → p x a ≡ true → Nearest (p x) n (a + 1) (getD joined a 0)
+    link-next a x m r o t =
+        cases (eqb a e)
+        (λ u.
+        let q : a ≡ e = omega tests in
+        let z : x ≡ y = only x (rw q at t) in
+        rw (at-event a (omega arith), q, z, getD-set-same chain e (getD chain (head y) 0) 0 (omega (arith, c .wide))) (c .heads y l))
+        (λ u. rw (at-event a (omega arith), getD-set-other chain e a (getD chain (head y) 0) 0 (λ q. omega tests)) (c .links a x (omega tests) r o t))
+
+    pub next-joined : Chained p n k e joined
+    next-joined =
+        record {
+          wide = length-set (set chain e (getD chain (head y) 0)) (head y) e ∙ length-set chain e (getD chain (head y) 0) ∙ c .wide;
+          heads = head-next;
+          links = link-next;
+        }
+
+-- the same chains by another test that says the same
+nearest-by : (p q : ℕ → Bool) (n m b : ℕ) → ((i : ℕ) → p i ≡ q i) → Nearest p n m b → Nearest q n m b
+nearest-by p q n m b h r = record { low = r .low; high = r .high; passed = λ i l u. sym (h i) ∙ r .passed i l u; hit = λ l. sym (h b) ∙ r .hit l }
+
+pub chained-by : (p q : ℕ → ℕ → Bool) (n k e : ℕ) (chain : List ℕ) → ((x i : ℕ) → p x i ≡ q x i) → Chained p n k e chain → Chained q n k e chain
+chained-by p q n k e chain h c =
+    record {
+      wide = c .wide;
+      heads = λ x l. nearest-by (p x) (q x) n e _ (h x) (c .heads x l);
+      links = λ a x l m o t. nearest-by (p x) (q x) n (a + 1) _ (h x) (c .links a x l m o (h x a ∙ t));
+    }
+
+-- ---- the test of the code: of the kinds lo to hi, on an object below k
+
+or-none : (a b : Bool) → (a || b) ≡ false → (a ≡ false) × (b ≡ false)
+or-none true b h = absurd (true≢false h)
+or-none false b h = (refl, h)
+
+module _ (lo hi k : ℕ) (v : Event) where
+  abbrev beside : Bool
+  beside = ltb (v .kind) lo || ltb hi (v .kind) || leb k (v .object)
+
+  pub outside : beside ≡ true → (x : ℕ) → x < k → isAmong lo hi x v ≡ false
+  outside h x l =
+      fails (isAmong lo hi x v) λ t.
+      let q = all-three (leb lo (v .kind)) (leb (v .kind) hi) (eqb (v .object) x) t in
+      let a = leb-true lo (v .kind) (q .0) in
+      let b = leb-true (v .kind) hi (q .1) in
+      let d = eqb-true (v .object) x (q .2) in
+      ⊎-elim
+      (λ u. ⊎-elim (λ w. let z = ltb-true (v .kind) lo w in omega arith) (λ w. let z = ltb-true hi (v .kind) w in omega arith) (either (ltb (v .kind) lo) (ltb hi (v .kind)) u))
+      (λ u. let z = leb-true k (v .object) u in omega arith)
+      (either (ltb (v .kind) lo || ltb hi (v .kind)) (leb k (v .object)) h)
+
+  pub within : beside ≡ false → (v .object < k) × (isAmong lo hi (v .object) v ≡ true)
+  within h =
+      let q = or-none (ltb (v .kind) lo || ltb hi (v .kind)) (leb k (v .object)) h in
+      let r = or-none (ltb (v .kind) lo) (ltb hi (v .kind)) (q .0) in (
+        leb-false k (v .object) (q .1),
+        both (both (le-leb lo (v .kind) (ltb-false (v .kind) lo (r .0))) (le-leb (v .kind) hi (ltb-false hi (v .kind) (r .1)))) (eq-eqb (v .object) (v .object) refl),
+      )
+
+  pub alone : (x : ℕ) → isAmong lo hi x v ≡ true → x ≡ v .object
+  alone x t = sym (eqb-true (v .object) x (second (leb lo (v .kind) && leb (v .kind) hi) (eqb (v .object) x) t))

@@ -1,0 +1,45 @@
+-- `events::gather` meets its contract: the chains are those of the events from e on. Assumes nothing.
+use mathlib.Core.Path.{_≡_}
+use Prim.Native.Nat.{_+_, _-_, _/_, _≤_}
+use native.Mathlib.Omega.{arith}
+use lib.ListN.{length}
+use Rattle.events.specs.Chains.{among, Chained}
+use Rattle.events.proofs.Chains.{start}
+use Rattle.events.proofs.gather.Statement.{statement}
+use Rattle.events.proofs.gather.Tie as tie
+
+abbrev Inv-loop : tie.InvT-loop
+Inv-loop recs lo hi limit e₀ none chain₀ e chain = (e ≤ length recs / 4) × Chained (among recs lo hi) (length recs / 4) limit e chain
+
+abbrev μ-loop : tie.MeasureT-loop
+μ-loop recs lo hi limit e₀ none chain₀ e chain = e
+
+loop-holds : tie.Need-loop-holds Inv-loop μ-loop
+loop-holds c = let s = c .before in (omega arith, start _ _ _ (s .pre .1))
+
+link-requires : tie.Need-link-requires Inv-loop μ-loop
+link-requires c κs =
+    let s = c .before .before .before .before in
+    let k = c .before .before .loop in
+    let e : k .e - 1 + 1 ≡ k .e = omega arith in
+    ((omega arith, s .pre .0, s .pre .1), rw e (k .inv .1))
+
+loop-again : tie.Need-loop-again Inv-loop μ-loop
+loop-again c = (omega arith, c .link .ensures)
+
+returns : tie.Need-returns Inv-loop μ-loop
+returns c = let e : c .before .loop .e ≡ 0 = omega arith in rw e at (c .before .loop .inv .1)
+
+pub gather-spec : {M : Type 1} → statement M
+gather-spec =
+    tie.close
+    (tie.spec
+    Inv-loop
+    μ-loop
+    (λ c. omega arith)
+    loop-holds
+    (λ c. omega arith)
+    link-requires
+    (λ c. omega arith)
+    loop-again
+    returns)

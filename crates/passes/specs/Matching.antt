@@ -1,0 +1,31 @@
+-- The matches of the recorded run, in one look: each wait takes the signal at hand on its semaphore, and the next one is at hand.
+-- Assumes nothing.
+use Prim.Native.Nat.{ℕ, _+_, _≤_, _<_}
+use mathlib.Core.Path.{_≡_}
+use mathlib.Core.Bool.{Bool, true}
+use mathlib.Core.List.{List}
+use lib.ListN.{length, getD}
+use Rattle.model.specs.Numbers.{tally}
+use Rattle.model.specs.Recording.{noEvent, isSignal, isWait}
+use Rattle.model.specs.File.{eventsOf}
+use Rattle.events.specs.Chains.{Nearest, head}
+
+-- event i of the record bytes s is a signal, or a wait, on semaphore x
+abbrev pub signalAt : List ℕ → ℕ → ℕ → Bool
+signalAt s x i = isSignal x (getD (eventsOf s) i noEvent)
+
+abbrev pub waitAt : List ℕ → ℕ → ℕ → Bool
+waitAt s x i = isWait x (getD (eventsOf s) i noEvent)
+
+-- b is the signal on x with w signals on x before it; the number of events where there is none
+pub record AtHand (s : List ℕ) (x w b : ℕ) : Type 0 where
+  pub high : b ≤ length (eventsOf s)
+  pub hit : b < length (eventsOf s) → signalAt s x b ≡ true
+  pub rank : b < length (eventsOf s) → tally (signalAt s x) b ≡ w
+  pub most : tally (signalAt s x) b ≤ w
+
+-- the running state after the events below e: at a semaphore's place the signal at hand, and at a signal's the next one
+pub record Matching (s : List ℕ) (e : ℕ) (chain : List ℕ) : Type 0 where
+  pub wide : length chain ≡ 2048
+  pub heads : (x : ℕ) → x < 64 → AtHand s x (tally (waitAt s x) e) (getD chain (head x) 0)
+  pub links : (a x : ℕ) → a < length (eventsOf s) → x < 64 → signalAt s x a ≡ true → Nearest (signalAt s x) (length (eventsOf s)) (a + 1) (getD chain a 0)
