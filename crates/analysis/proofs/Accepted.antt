@@ -6,11 +6,11 @@ use Prim.Native.Nat.{ℕ, _+_, _*_, _≤_, _<_}
 use native.Mathlib.Omega.{arith}
 use lib.ListN.{length}
 use Rattle.model.specs.declared.Counts.{Counts}
-use Rattle.model.specs.declared.Header.{Header}
+use Rattle.model.specs.declared.Trailer.{Trailer}
 use Rattle.model.specs.declared.Check.{Check}
 use Rattle.model.specs.declared.Reading.{Reading}
 use Rattle.model.specs.Recording.{Recording, size, kindOf, objectOf, classOf, Accepted}
-use Rattle.model.specs.File.{headerOf, recordBytes, recordingBy, recordingOf}
+use Rattle.model.specs.File.{trailerOf, recordBytes, recordingBy, recordingOf}
 use Rattle.model.specs.Reading.{fileCheck, readingOf}
 use Rattle.model.proofs.Accept.{task-inside, object-inside}
 use Rattle.model.proofs.Files.{sound, bytes-length, size-records}
@@ -22,35 +22,35 @@ semaphore-inside : (E : Recording) → Accepted E → (e : ℕ) → e < size E �
 unfolding classOf
 semaphore-inside E acc e l w = rw w at (object-inside E acc e l)
 
-module _ (f : List ℕ) (h : Header) (q : readingOf f ≡ Reading.Accepted h) where
+module _ (f : List ℕ) (h : Trailer) (q : readingOf f ≡ Reading.Accepted h) where
   pub passed : fileCheck f ≡ Check.Passed
   passed = accepted-is f h q .1
 
-  header : h ≡ headerOf f
-  header = accepted-is f h q .0
+  trailer : h ≡ trailerOf f
+  trailer = accepted-is f h q .0
 
-  -- the records' part, cut by the header, lies within the file
+  -- the records' part, cut by the trailer, lies within the file
   pub inside : h .start + 4 * h .records ≤ length f
   inside = omega (arith, within f h q)
 
   module _ (s : List ℕ) (e : s ≡ recordBytes f h) where
     pub the-recording : recordingBy s (h .counts) ≡ recordingOf f
     unfolding recordingOf
-    the-recording = ap₂ recordingBy (e ∙ ap (recordBytes f) header) (ap (λ (x : Header). x .counts) header)
+    the-recording = ap₂ recordingBy (e ∙ ap (recordBytes f) trailer) (ap (λ (x : Trailer). x .counts) trailer)
 
     pub ready : Ready s (h .counts)
     ready =
         let u = sound f passed in
         let r = u .range in
-        let n : size (recordingBy s (h .counts)) ≡ headerOf f .records = ap size the-recording ∙ size-records f u in
-        let k : h .counts ≡ headerOf f .counts = ap (λ (x : Header). x .counts) header in
-        let t : h .counts .tasks ≡ headerOf f .counts .tasks = ap (λ (x : Counts). x .tasks) k in
-        let m : h .counts .semaphores ≡ headerOf f .counts .semaphores = ap (λ (x : Counts). x .semaphores) k in
-        let d : h .counts .cells ≡ headerOf f .counts .cells = ap (λ (x : Counts). x .cells) k in
+        let n : size (recordingBy s (h .counts)) ≡ trailerOf f .records = ap size the-recording ∙ size-records f u in
+        let k : h .counts ≡ trailerOf f .counts = ap (λ (x : Trailer). x .counts) trailer in
+        let t : h .counts .tasks ≡ trailerOf f .counts .tasks = ap (λ (x : Counts). x .tasks) k in
+        let m : h .counts .semaphores ≡ trailerOf f .counts .semaphores = ap (λ (x : Counts). x .semaphores) k in
+        let d : h .counts .cells ≡ trailerOf f .counts .cells = ap (λ (x : Counts). x .cells) k in
         record {
           records =
               record {
-                whole = ap length (e ∙ ap (recordBytes f) header) ∙ bytes-length f u ∙ ap (λ (m : ℕ). 4 * m) (sym n);
+                whole = ap length (e ∙ ap (recordBytes f) trailer) ∙ bytes-length f u ∙ ap (λ (m : ℕ). 4 * m) (sym n);
                 few = omega (arith, n, r .few-records);
                 named = task-inside (recordingBy s (h .counts)) (subst Accepted (sym the-recording) (u .accepted));
                 waits = λ e l w. omega (arith, m, r .few-semaphores, semaphore-inside (recordingBy s (h .counts)) (subst Accepted (sym the-recording) (u .accepted)) e l w);

@@ -15,9 +15,9 @@ use Rattle.model.specs.File.{recordingOf}
 use Rattle.model.specs.Reading.{fileCheck}
 use Rattle.model.specs.Passes.{passesMade, isSettled}
 use Rattle.model.specs.Pairs.{listed, entryNumbers}
-use Rattle.model.specs.Analysing.{workFits, filled, workCheck, analysisCheck, analysisBy, analysisOf, workAfter, listAfter}
-use Rattle.model.specs.Question.{relationOf, twoEvents, questionCheck, answerBy, answerOf, askedWork}
-use Rattle.pairs.specs.Lent.{Outcome}
+use Rattle.model.specs.Analysing.{workFits, filled, workCheck, analysisCheck, analysisBy, analysisOf, workAfterAnalysing, listAfterAnalysing}
+use Rattle.model.specs.Question.{relationOf, twoEvents, questionCheck, answerBy, answerOf, workAfterAsking}
+use Rattle.pairs.specs.Lent.{WrittenList}
 use Rattle.analysis.specs.Lent.{Analysed, Asked}
 
 -- ---- from a check to what is answered and left
@@ -27,7 +27,7 @@ module _ (f : List ℕ) (b : ℕ) (w l : List ℕ) where
       → (a : Analysis) (w′ l′ : List ℕ) → a ≡ analysisBy (recordingOf f) b m
       → w′ ≡ after k (λ _. filled (recordingOf f) b w) w
       → l′ ≡ after m (λ _. let es = listed (recordingOf f) b in entryNumbers es ++ drop (3 * length es) l) l → Analysed f b w l a w′ l′
-  unfolding analysisOf workAfter listAfter
+  unfolding analysisOf workAfterAnalysing listAfterAnalysing
   by-analysis k m p q a w′ l′ x y z = record { answer = x ∙ rw q; work = y ∙ rw p; list = z ∙ rw q }
 
   -- the file's own refusal
@@ -46,23 +46,23 @@ module _ (f : List ℕ) (b : ℕ) (w l : List ℕ) where
       work-passed = rw (p, h)
 
       -- the list is too short, and the work numbers are filled
-      pub refused-list : (w′ l′ : List ℕ) (n : ℕ) → w′ ≡ filled (recordingOf f) b w → Outcome (listed (recordingOf f) b) l l′ false n
+      pub refused-list : (w′ l′ : List ℕ) (n : ℕ) → w′ ≡ filled (recordingOf f) b w → WrittenList (listed (recordingOf f) b) l l′ false n
           → Analysed f b w l (Analysis.Refused (Refusal.List n)) w′ l′
       unfolding analysisCheck
       refused-list w′ l′ n e o =
           by-analysis Check.Passed (Check.Failed (Refusal.List n)) work-passed (rw (work-passed, sym (o .room), o .counted)) _ _ _ refl e (o .written)
 
       -- all is well
-      pub finished : (w′ l′ : List ℕ) (m n : ℕ) (s : Bool) → w′ ≡ filled (recordingOf f) b w → Outcome (listed (recordingOf f) b) l l′ true n
+      pub finished : (w′ l′ : List ℕ) (m n : ℕ) (s : Bool) → w′ ≡ filled (recordingOf f) b w → WrittenList (listed (recordingOf f) b) l l′ true n
           → m ≡ passesMade (recordingOf f) b → s ≡ isSettled (recordingOf f) b → Analysed f b w l (Analysis.Done m s n) w′ l′
       unfolding analysisCheck
       finished w′ l′ m n s e o x y =
           by-analysis Check.Passed Check.Passed work-passed (rw (work-passed, sym (o .room))) _ _ _ (rw (x, y, o .counted)) e (o .written)
 
 module _ (f : List ℕ) (x y b : ℕ) (w : List ℕ) where
-  by-question : (k : Check) → questionCheck f x y w ≡ k → (a : Answer) (w′ : List ℕ) → a ≡ answerBy (recordingOf f) b x y k
+  by-question : (k : Check) → questionCheck f x y w ≡ k → (a : Answer) (w′ : List ℕ) → a ≡ answerBy (recordingOf f) x y b k
       → w′ ≡ after k (λ _. filled (recordingOf f) b w) w → Asked f x y b w a w′
-  unfolding answerOf askedWork
+  unfolding answerOf workAfterAsking
   by-question k p a w′ q r = record { answer = q ∙ rw p; work = r ∙ rw p }
 
   pub asked-file : (r : Refusal) → fileCheck f ≡ Check.Failed r → Asked f x y b w (Answer.Refused r) w
@@ -78,7 +78,7 @@ module _ (f : List ℕ) (x y b : ℕ) (w : List ℕ) where
     unfolding questionCheck
     asked-work h k = by-question (Check.Failed Refusal.Work) (rw (p, h, k)) _ _ refl refl
 
-    pub related : twoEvents (recordingOf f) x y ≡ true → workFits (recordingOf f) w ≡ true → (r : Relation) (w′ : List ℕ) → r ≡ relationOf (recordingOf f) b x y
+    pub related : twoEvents (recordingOf f) x y ≡ true → workFits (recordingOf f) w ≡ true → (r : Relation) (w′ : List ℕ) → r ≡ relationOf (recordingOf f) x y b
         → w′ ≡ filled (recordingOf f) b w → Asked f x y b w (Answer.Related r) w′
     unfolding questionCheck
     related h k r w′ e q = by-question Check.Passed (rw (p, h, k)) _ _ (ap (λ (s : Relation). Answer.Related s) e) q

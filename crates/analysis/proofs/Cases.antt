@@ -6,7 +6,7 @@ use mathlib.Core.List.{List}
 use Prim.Native.Nat.{ℕ, _*_}
 use lib.ListN.{length}
 use lib.Dec.{eqb, ltb}
-use Rattle.model.specs.declared.Header.{Header}
+use Rattle.model.specs.declared.Trailer.{Trailer}
 use Rattle.model.specs.declared.Refusal.{Refusal}
 use Rattle.model.specs.declared.Reading.{Reading}
 use Rattle.model.specs.declared.Analysis.{Analysis}
@@ -20,16 +20,16 @@ use Rattle.model.specs.Vectors.{Vectors}
 use Rattle.model.specs.Recorded.{recorded}
 use Rattle.model.specs.Pairs.{Entry, entries, listed}
 use Rattle.model.specs.Analysing.{workFits, filled}
-use Rattle.model.specs.Question.{relationOf, twoEvents}
+use Rattle.model.specs.Question.{relationBy, relationOf, twoEvents}
 use Rattle.model.proofs.Tests.{all-three, leb-true, ltb-true}
 use Rattle.passes.specs.Lent.{Numbered}
-use Rattle.pairs.specs.Lent.{Outcome, relationBy}
+use Rattle.pairs.specs.Lent.{WrittenList}
 use Rattle.analysis.specs.Lent.{numbers, Roomy, safeIn, recordedIn, Analysed, Asked}
 use Rattle.analysis.proofs.Parts.{safe-filled, recorded-filled}
 use Rattle.analysis.proofs.Accepted.{passed, the-recording}
 use Rattle.analysis.proofs.Answers.{refused-work, refused-list, finished, asked-event, asked-work, related}
 
-module _ (f : List ℕ) (h : Header) (q : readingOf f ≡ Reading.Accepted h) (s : List ℕ) (e : s ≡ recordBytes f h) (b : ℕ) (w : List ℕ) where
+module _ (f : List ℕ) (h : Trailer) (q : readingOf f ≡ Reading.Accepted h) (s : List ℕ) (e : s ≡ recordBytes f h) (b : ℕ) (w : List ℕ) where
   abbrev E : Recording
   E = recordingBy s (h .counts)
 
@@ -58,13 +58,13 @@ module _ (f : List ℕ) (h : Header) (q : readingOf f ≡ Reading.Accepted h) (s
     behind = ap (λ (v : List ℕ). recordedIn s (h .counts) v) k ∙ recorded-filled s (h .counts) b w
 
     module _ (l l′ : List ℕ) (n : ℕ) where
-      listing : (t : Bool) → Outcome (entries E (safeIn s (h .counts) w′) (recordedIn s (h .counts) w′)) l l′ t n → Outcome (listed (recordingOf f) b) l l′ t n
+      listing : (t : Bool) → WrittenList (entries E (safeIn s (h .counts) w′) (recordedIn s (h .counts) w′)) l l′ t n → WrittenList (listed (recordingOf f) b) l l′ t n
       unfolding listed
       listing t o =
-          subst (λ (es : List Entry). Outcome es l l′ t n) (ap₂ (entries E) safe behind ∙ ap (λ (F : Recording). listed F b) same) o
+          subst (λ (es : List Entry). WrittenList es l l′ t n) (ap₂ (entries E) safe behind ∙ ap (λ (F : Recording). listed F b) same) o
 
       -- done where the entries fit, and else 10
-      pub ended : (m : ℕ) (x : Bool) → m ≡ passesMade E b → x ≡ isSettled E b → {y : Bool} → Outcome (entries E (safeIn s (h .counts) w′) (recordedIn s (h .counts) w′)) l l′ y n
+      pub ended : (m : ℕ) (x : Bool) → m ≡ passesMade E b → x ≡ isSettled E b → {y : Bool} → WrittenList (entries E (safeIn s (h .counts) w′) (recordedIn s (h .counts) w′)) l l′ y n
           → (t : Bool) → y ≡ t → Analysed f b w l (cond t (Analysis.Done m x n) (Analysis.Refused (Refusal.List n))) w′ l′
       ended m x u v o true z =
           finished f b w l (passed f h q) (fits true p) w′ l′ m n x now-filled (listing true (rw z at o)) (u ∙ ap (λ (F : Recording). passesMade F b) same)
@@ -91,4 +91,4 @@ module _ (f : List ℕ) (h : Header) (q : readingOf f ≡ Reading.Accepted h) (s
     unfolding relationOf
     answered t p w′ k r u =
         related f x y b w (passed f h q) (two true t) (fits true p) r w′
-        (u ∙ ap₂ (λ (X R : Vectors). relationBy E X R x y) (safe p w′ k) (behind p w′ k) ∙ ap (λ (F : Recording). relationOf F b x y) same) (now-filled p w′ k)
+        (u ∙ ap₂ (λ (X R : Vectors). relationBy E X R x y) (safe p w′ k) (behind p w′ k) ∙ ap (λ (F : Recording). relationOf F x y b) same) (now-filled p w′ k)

@@ -8,11 +8,11 @@ use native.Mathlib.Omega.{arith}
 use lib.ListN.{length}
 use Rattle.model.specs.declared.Check.{Check}
 use Rattle.model.specs.declared.Analysis.{Analysis}
-use Rattle.model.specs.File.{headerOf, recordingOf}
+use Rattle.model.specs.File.{trailerOf, recordingOf}
 use Rattle.model.specs.Reading.{fileCheck, readingOf}
 use Rattle.model.specs.Passes.{passesMade, isSettled}
 use Rattle.model.specs.Pairs.{listed}
-use Rattle.model.specs.Analysing.{workCheck, analysisCheck, analysisBy, analysisOf, listAfter}
+use Rattle.model.specs.Analysing.{workCheck, analysisCheck, analysisBy, analysisOf, listAfterAnalysing}
 use Rattle.model.proofs.Checks.{then-passed}
 use Rattle.model.proofs.Promise.{promise}
 use Rattle.analysis.specs.Handed.{HandedBack}
@@ -27,7 +27,7 @@ unfolding analysisCheck workCheck
 file-passed f b w l h = then-passed (fileCheck f) _ (then-passed (workCheck f w) _ h .0) .0
 
 pub handed : HandedBack
-unfolding analysisOf listAfter readingOf
+unfolding analysisOf listAfterAnalysing readingOf
 handed f b w l m s n w′ l′ a =
     let k : analysisCheck f b w l ≡ Check.Passed = all-passed f b m s n (analysisCheck f b w l) (a .answer) in
     let d : Analysis.Done m s n ≡ Analysis.Done (passesMade (recordingOf f) b) (isSettled (recordingOf f) b) (length (listed (recordingOf f) b)) =
@@ -38,5 +38,5 @@ handed f b w l m s n w′ l′ a =
       settled = cc;
       pairs = x;
       entries = a .list ∙ rw (k, x);
-      promise = promise f (headerOf f) (rw (file-passed f b w l k)) b;
+      promise = promise f (trailerOf f) (rw (file-passed f b w l k)) b;
     }

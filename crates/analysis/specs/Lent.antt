@@ -10,8 +10,8 @@ use Rattle.model.specs.declared.Answer.{Answer}
 use Rattle.model.specs.Recording.{size}
 use Rattle.model.specs.File.{recordingBy}
 use Rattle.model.specs.Vectors.{Vectors}
-use Rattle.model.specs.Analysing.{analysisOf, workAfter, listAfter}
-use Rattle.model.specs.Question.{answerOf, askedWork}
+use Rattle.model.specs.Analysing.{analysisOf, workAfterAnalysing, listAfterAnalysing}
+use Rattle.model.specs.Question.{answerOf, workAfterAsking}
 use Rattle.passes.specs.Lent.{vectorsIn, Records}
 
 -- the records of an accepted file
@@ -38,10 +38,10 @@ recordedIn s c work = vectorsIn s c (take (numbers s c) (drop (numbers s c) work
 -- analysing the file f with the budget b answers a, and leaves w′ in the work numbers w and l′ in the list l
 pub record Analysed (f : List ℕ) (b : ℕ) (w l : List ℕ) (a : Analysis) (w′ l′ : List ℕ) : Type 0 where
   pub answer : a ≡ analysisOf f b w l
-  pub work : w′ ≡ workAfter f b w
-  pub list : l′ ≡ listAfter f b w l
+  pub work : w′ ≡ workAfterAnalysing f b w
+  pub list : l′ ≡ listAfterAnalysing f b w l
 
 -- a question about the events x and y of the file f answers a, and leaves w′ in the work numbers w
 pub record Asked (f : List ℕ) (x y b : ℕ) (w : List ℕ) (a : Answer) (w′ : List ℕ) : Type 0 where
   pub answer : a ≡ answerOf f x y b w
-  pub work : w′ ≡ askedWork f x y b w
+  pub work : w′ ≡ workAfterAsking f x y b w

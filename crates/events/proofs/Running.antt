@@ -7,10 +7,9 @@ use native.Mathlib.Omega.{arith}
 use lib.Dec.{eqb}
 use lib.ListN.{length, getD, replicate, length-set, length-replicate, getD-replicate}
 use lib.Seq.{getD-set-same, getD-set-other}
-use Rattle.model.specs.declared.Counts.{Counts}
 use Rattle.model.specs.Numbers.{bit, sum, tally}
-use Rattle.model.specs.Recording.{noEvent, ofTask}
-use Rattle.model.specs.File.{eventsOf, recordingBy}
+use Rattle.model.specs.Recording.{ofTask, eventIn}
+use Rattle.model.specs.File.{eventsOf}
 use Rattle.model.specs.Vectors.{position}
 use Rattle.model.proofs.Tests.{cases, tests, eq-eqb, bit-le}
 use Rattle.events.specs.Running.{more, Running}
@@ -37,20 +36,20 @@ module _ (s : List ℕ) (n t : ℕ) (own : List ℕ) (r : Running s n own) (l : 
         owned =
             λ x h.
             let q = ap (λ (y : ℕ). bit (eqb y x)) (e ∙ sym (task-at s n l)) in
-            omega (arith, q, more-at own t x (omega (arith, r .wide)), r .owned x h, tally-next (λ a. ofTask x (getD (eventsOf s) a noEvent)) n);
+            omega (arith, q, more-at own t x (omega (arith, r .wide)), r .owned x h, tally-next (λ a. ofTask x (eventIn (eventsOf s) a)) n);
       }
 
   -- its position is one more than those before it in its task
-  pub placed : (c : Counts) → getD own t 0 + 1 ≡ position (recordingBy s c) n
+  pub placed : getD own t 0 + 1 ≡ position (eventsOf s) n
   unfolding position sum
-  placed c =
+  placed =
       let w = e ∙ sym (task-at s n l) in
       rw (← w, eq-eqb t t refl, r .owned t b)
 
-tally-most : (s : List ℕ) (t n : ℕ) → tally (λ a. ofTask t (getD (eventsOf s) a noEvent)) n ≤ n
+tally-most : (s : List ℕ) (t n : ℕ) → tally (λ a. ofTask t (eventIn (eventsOf s) a)) n ≤ n
 unfolding sum
 tally-most s t zero = omega arith
-tally-most s t (suc n) = omega (arith, tally-most s t n, bit-le (ofTask t (getD (eventsOf s) n noEvent)) _ (λ _. refl))
+tally-most s t (suc n) = omega (arith, tally-most s t n, bit-le (ofTask t (eventIn (eventsOf s) n)) _ (λ _. refl))
 
 -- a count is at most as many as have been passed
 pub few : (s : List ℕ) (n : ℕ) (own : List ℕ) → Running s n own → (t : ℕ) → t < 256 → getD own t 0 ≤ n

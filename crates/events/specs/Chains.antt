@@ -7,8 +7,8 @@ use mathlib.Core.List.{List}
 use lib.Dec.{leb, eqb}
 use lib.ListN.{length, getD}
 use Rattle.model.specs.declared.Event.{Event}
-use Rattle.model.specs.Recording.{noEvent}
 use Rattle.model.specs.File.{eventsOf}
+use Rattle.model.specs.Recording.{eventIn}
 
 -- an event of the kinds lo to hi on the object x
 abbrev pub isAmong : ℕ → ℕ → ℕ → Event → Bool
@@ -16,7 +16,7 @@ isAmong lo hi x v = leb lo (v .kind) && leb (v .kind) hi && eqb (v .object) x
 
 -- event i of the record bytes s is one
 abbrev pub among : List ℕ → ℕ → ℕ → ℕ → ℕ → Bool
-among s lo hi x i = isAmong lo hi x (getD (eventsOf s) i noEvent)
+among s lo hi x i = isAmong lo hi x (eventIn (eventsOf s) i)
 
 -- from m on the nearest number below n that passes the test is b; n where there is none
 pub record Nearest (p : ℕ → Bool) (n m b : ℕ) : Type 0 where

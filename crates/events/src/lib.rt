@@ -1,17 +1,20 @@
-// The records as lent bytes: an event's fields, counts and searches over the first records, and positions.
+// The records as lent bytes: an event's fields, searches over the first records, and what one look at all records keeps
+// of each: positions, the event before, and chains of the events on one object.
 ghost use mathlib.Core.Path.{_≡_};
-ghost use mathlib.Core.List.{_++_};
 ghost use Prim.Native.Nat.{_+_, _*_, _/_, _≤_, _<_};
-ghost use lib.ListN.{length, getD, drop};
-ghost use Rattle.model.specs.declared.Counts.{Counts};
-ghost use Rattle.model.specs.Numbers.{listOf, lastOf};
-ghost use Rattle.model.specs.Recording.{noEvent, ofTask, isOn};
-ghost use Rattle.model.specs.File.{u16At, eventsOf, recordBytes, recordingBy};
-ghost use Rattle.model.specs.Vectors.{position};
+ghost use lib.ListN.{length};
+ghost use Rattle.model.specs.Numbers.{lastOf};
+ghost use Rattle.model.specs.Recording.{eventIn, ofTask, isOn};
+ghost use Rattle.model.specs.File.{u16At, eventsOf, recordBytes};
+ghost use Rattle.model.specs.Reading.{mostCells, mostEvents};
+ghost use Rattle.model.specs.Passes.{beforeOrFork};
 ghost use Rattle.events.specs.Chains.{among, Chained};
+ghost use Rattle.events.specs.Kept.{Positions, Below, foundBelow, Before};
 use model::Event;
+use model::FORK;
 use model::Found;
-use model::Header;
+use model::MOST_EVENTS;
+use model::Trailer;
 
 // The number of two bytes, little-endian.
 pub fn u16_at(s: &[u8], i: usize) -> u16
@@ -21,26 +24,26 @@ pub fn u16_at(s: &[u8], i: usize) -> u16
     (s[i] as u16) + 256 * (s[i + 1] as u16)
 }
 
-// The records' part of a file with this header.
-pub fn records_of(file: &[u8], header: Header) -> &[u8]
-    requires { ⌜ header .start + 4 * header .records ≤ length (now file) ⌝ }
-    ensures { λ r. ⌜ now r ≡ recordBytes (now (file .entry)) header ⌝ }
+// The records' part of a file with this trailer.
+pub fn records_of(file: &[u8], trailer: Trailer) -> &[u8]
+    requires { ⌜ trailer .start + 4 * trailer .records ≤ length (now file) ⌝ }
+    ensures { λ r. ⌜ now r ≡ recordBytes (now (file .entry)) trailer ⌝ }
 {
-    let start = header.start;
-    let stop = start + 4 * header.records;
+    let start = trailer.start;
+    let stop = start + 4 * trailer.records;
     &file[start..stop]
 }
 
 // Event e, which is record e.
-pub fn event_at(recs: &[u8], e: usize) -> Event
-    requires { ⌜ 4 * e + 3 < length (now recs) ⌝ }
-    ensures { λ r. ⌜ r ≡ getD (eventsOf (now (recs .entry))) e noEvent ⌝ }
+pub fn event_at(records: &[u8], e: usize) -> Event
+    requires { ⌜ 4 * e + 3 < length (now records) ⌝ }
+    ensures { λ r. ⌜ r ≡ eventIn (eventsOf (now (records .entry))) e ⌝ }
 {
     let at = 4 * e;
     Event {
-        task: recs[at],
-        kind: recs[at + 1],
-        object: u16_at(recs, at + 2),
+        task: records[at],
+        kind: records[at + 1],
+        object: u16_at(records, at + 2),
     }
 }
 
@@ -55,81 +58,135 @@ fn is_on(v: Event, kind: u8, object: u16) -> bool
 }
 
 // The last of the first n events that is this task's, found by a call on the record one lower.
-pub fn task_before(recs: &[u8], n: usize, task: u16) -> Found
-    requires { ⌜ 4 * n ≤ length (now recs) ⌝ }
-    ensures { λ r. ⌜ r ≡ lastOf (λ a. ofTask task (getD (eventsOf (now (recs .entry))) a noEvent)) n ⌝ }
+pub fn task_before(records: &[u8], n: usize, task: u16) -> Found
+    requires { ⌜ 4 * n ≤ length (now records) ⌝ }
+    ensures { λ r. ⌜ r ≡ lastOf (λ a. ofTask task (eventIn (eventsOf (now (records .entry))) a)) n ⌝ }
 {
     if n == 0 {
         return Found::Nothing;
     }
     let e = n - 1;
-    let v = event_at(recs, e);
+    let v = event_at(records, e);
     if v.task as u16 == task {
         return Found::At(e);
     }
-    task_before(recs, e, task)
+    task_before(records, e, task)
 }
 
 // The last of the first n events with this kind and this object.
-pub fn last_on(recs: &[u8], n: usize, kind: u8, object: u16) -> Found
-    requires { ⌜ 4 * n ≤ length (now recs) ⌝ }
-    ensures { λ r. ⌜ r ≡ lastOf (λ a. isOn kind object (getD (eventsOf (now (recs .entry))) a noEvent)) n ⌝ }
+pub fn last_on(records: &[u8], n: usize, kind: u8, object: u16) -> Found
+    requires { ⌜ 4 * n ≤ length (now records) ⌝ }
+    ensures { λ r. ⌜ r ≡ lastOf (λ a. isOn kind object (eventIn (eventsOf (now (records .entry))) a)) n ⌝ }
 {
     let mut i = n;
     while 0 < i {
         i -= 1;
-        if is_on(event_at(recs, i), kind, object) {
+        if is_on(event_at(records, i), kind, object) {
             return Found::At(i);
         }
     }
     Found::Nothing
 }
 
-// Writes the positions of all whole records from the front; what is behind them stays.
-pub fn positions(recs: &[u8], out: &mut [u16])
-    requires { ⌜ (length (now recs) ≤ 4 * length (now out)) × (length (now recs) ≤ 4096) ⌝ }
-    ensures { λ _. ⌜ ((c : Counts) → now (out .exit)
-        ≡ listOf (position (recordingBy (now (recs .entry)) c)) (length (now (recs .entry)) / 4)
-        ++ drop (length (now (recs .entry)) / 4) (now (out .entry))) ⌝ }
+// The position of each event, in one look: `own` counts the records passed of each task, which is a byte.
+pub fn positions(records: &[u8]) -> [u16; MOST_EVENTS]
+    requires { ⌜ length (now records) ≤ 4 * mostEvents ⌝ }
+    ensures { λ r. ⌜ Positions (eventsOf (now (records .entry))) r ⌝ }
 {
-    let n = recs.len() / 4;
+    let n = records.len() / 4;
+    let mut positions = [0u16; MOST_EVENTS];
     let mut own = [0u16; 256];
     let mut e = 0;
     while e < n {
-        let task = recs[4 * e] as usize;
+        let task = records[4 * e] as usize;
         let at = own[task] + 1;
         own[task] = at;
-        out[e] = at;
+        positions[e] = at;
         e += 1;
+    }
+    positions
+}
+
+// The event before e in its task, or for the first event of a task the fork.
+fn before_or_fork(records: &[u8], e: usize) -> Found
+    requires { ⌜ 4 * e + 3 < length (now records) ⌝ }
+    ensures { λ r. ⌜ (r ≡ beforeOrFork (eventsOf (now (records .entry))) e) × Below (length (now (records .entry)) / 4) r ⌝ }
+{
+    let v = event_at(records, e);
+    let task = v.task as u16;
+    let before = task_before(records, e, task);
+    match before {
+        Found::At(a) => Found::At(a),
+        Found::Nothing => last_on(records, records.len() / 4, FORK, task),
     }
 }
 
-// Puts event e first in the chain of its object, where its kind is one of lo to hi and its object is below `limit`.
-fn link(recs: &[u8], lo: u8, hi: u8, limit: u16, e: usize, chain: &mut [u16; 2048])
-    requires { ⌜ (4 * e + 3 < length (now recs)) × (length (now recs) ≤ 4096) × (limit ≤ 1024) ⌝ }
-    requires { ⌜ Chained (among (now recs) lo hi) (length (now recs) / 4) limit (e + 1) (now chain) ⌝ }
-    ensures { λ _. ⌜ Chained (among (now (recs .entry)) lo hi) (length (now (recs .entry)) / 4) limit e (now (chain .exit)) ⌝ }
+// A found event of n as a number: n where none was found.
+fn number_of(found: Found, n: usize) -> u16
+    requires { ⌜ Below n found × (n ≤ mostEvents) ⌝ }
+    ensures { λ r. ⌜ foundBelow n r ≡ found ⌝ }
 {
-    let v = event_at(recs, e);
+    match found {
+        Found::At(a) => a as u16,
+        Found::Nothing => n as u16,
+    }
+}
+
+// And back.
+pub fn found_below(n: usize, a: u16) -> Found
+    ensures { λ r. ⌜ (r ≡ foundBelow n a) × Below n r ⌝ }
+{
+    if (a as usize) < n {
+        return Found::At(a as usize);
+    }
+    Found::Nothing
+}
+
+// The event before each event in its task, or for the first event of a task the fork. One search for each event: a record
+// is passed by at most one search of each task.
+pub fn before_each(records: &[u8]) -> [u16; MOST_EVENTS]
+    requires { ⌜ length (now records) ≤ 4 * mostEvents ⌝ }
+    ensures { λ r. ⌜ Before (eventsOf (now (records .entry))) r ⌝ }
+{
+    let n = records.len() / 4;
+    let mut before = [0u16; MOST_EVENTS];
+    let mut e = 0;
+    while e < n {
+        before[e] = number_of(before_or_fork(records, e), n);
+        e += 1;
+    }
+    before
+}
+
+// How long chains are: a place for each event, then one for each object.
+pub const CHAINS: usize = 2048;
+
+// Puts event e first in the chain of its object, where its kind is one of lo to hi and its object is below `limit`.
+fn link(records: &[u8], lo: u8, hi: u8, limit: u16, e: usize, chain: &mut [u16; CHAINS])
+    requires { ⌜ (4 * e + 3 < length (now records)) × (length (now records) ≤ 4 * mostEvents) × (limit ≤ mostCells) ⌝ }
+    requires { ⌜ Chained (among (now records) lo hi) (length (now records) / 4) limit (e + 1) (now chain) ⌝ }
+    ensures { λ _. ⌜ Chained (among (now (records .entry)) lo hi) (length (now (records .entry)) / 4) limit e (now (chain .exit)) ⌝ }
+{
+    let v = event_at(records, e);
     if (v.kind < lo) | (hi < v.kind) | (limit <= v.object) {
         return;
     }
-    let head = 1024 + (v.object as usize);
+    let head = MOST_EVENTS + (v.object as usize);
     chain[e] = chain[head];
     chain[head] = e as u16;
 }
 
 // Gathers the events of the kinds lo to hi in a chain for each object below `limit`, from the last event to the first.
-pub fn gather(recs: &[u8], lo: u8, hi: u8, limit: u16) -> [u16; 2048]
-    requires { ⌜ (length (now recs) ≤ 4096) × (limit ≤ 1024) ⌝ }
-    ensures { λ r. ⌜ Chained (among (now (recs .entry)) lo hi) (length (now (recs .entry)) / 4) limit 0 r ⌝ }
+pub fn gather(records: &[u8], lo: u8, hi: u8, limit: u16) -> [u16; CHAINS]
+    requires { ⌜ (length (now records) ≤ 4 * mostEvents) × (limit ≤ mostCells) ⌝ }
+    ensures { λ r. ⌜ Chained (among (now (records .entry)) lo hi) (length (now (records .entry)) / 4) limit 0 r ⌝ }
 {
-    let mut e = recs.len() / 4;
+    let mut e = records.len() / 4;
     let none = e as u16;
-    let mut chain = [none; 2048];
+    let mut chain = [none; CHAINS];
     while 0 < e {
         e -= 1;
-        link(recs, lo, hi, limit, e, &mut chain);
+        link(records, lo, hi, limit, e, &mut chain);
     }
     chain
 }

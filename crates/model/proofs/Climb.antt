@@ -51,8 +51,8 @@ module _ (E : Recording) where
       record {
         rows = start-length E;
         row = λ e l.
-            ap length (listOf-at (λ e. listOf (λ t. cond (eqb t (taskOf E e)) (position E e) 0) (tasks E)) [] (size E) e l)
-            ∙ listOf-length (λ t. cond (eqb t (taskOf E e)) (position E e) 0) 0 (tasks E);
+            ap length (listOf-at (λ e. listOf (λ t. cond (eqb t (taskOf E e)) (position (E .events) e) 0) (tasks E)) [] (size E) e l)
+            ∙ listOf-length (λ t. cond (eqb t (taskOf E e)) (position (E .events) e) 0) 0 (tasks E);
       }
 
   pub gathered-length : (X : Vectors) (from : List ℕ) (e : ℕ) → length (gathered E X from e) ≡ (tasks E)
@@ -92,7 +92,7 @@ module _ (E : Recording) where
       listOf-at (λ t. max (number (stepOne E X e) e t) (served E (stepOne E X e) e t)) 0 (tasks E) t l
 
   -- a raised vector has at least the numbers of what e takes the largest of
-  pub raised-from : (X : Vectors) (e t s : ℕ) → Shape X → e < size E → s < size E → List·Memᴰ s (e ∷ sources E e)
+  pub raised-from : (X : Vectors) (e t s : ℕ) → Shape X → e < size E → s < size E → List·Memᴰ s (e ∷ sources (E .events) e)
       → number X s t ≤ getD (raised E X e) t 0
   unfolding stepOne
   raised-from X e t s shape l k m =
@@ -101,7 +101,7 @@ module _ (E : Recording) where
       let inside = ltb-true t (tasks E) h in
       let r = shape .rows in
       le-trans (largest-has (λ s. number X s t) m)
-      (le-trans (le-of-eq (sym (number-set-same X e t (gathered E X (sources E e) e) (omega arith) ∙ gathered-at X (sources E e) e t inside)))
+      (le-trans (le-of-eq (sym (number-set-same X e t (gathered E X (sources (E .events) e) e) (omega arith) ∙ gathered-at X (sources (E .events) e) e t inside)))
       (le-trans (le-max-left _ _) (le-of-eq (sym (raised-at X e t inside))))))
       (λ h. le-trans (le-of-eq (beyond X s t shape k (ltb-false t (tasks E) h))) zero-le)
 

@@ -8,11 +8,11 @@ use native.Mathlib.Omega.{arith}
 use lib.Dec.{leb}
 use lib.ListN.{length, length-take, length-drop}
 use Rattle.model.specs.declared.Counts.{Counts}
-use Rattle.model.specs.declared.Header.{Header}
+use Rattle.model.specs.declared.Trailer.{Trailer}
 use Rattle.model.specs.declared.Check.{Check}
 use Rattle.model.specs.declared.Reading.{Reading}
 use Rattle.model.specs.Recording.{size, noEvent, Accepted}
-use Rattle.model.specs.File.{eventAt, eventsOf, trailer, headerOf, editionOf, recordBytes, recordingOf}
+use Rattle.model.specs.File.{eventAt, eventsOf, trailerAt, trailerOf, editionOf, recordBytes, recordingOf}
 use Rattle.model.specs.Reading.{extentMet, inRange, fileCheck, readingBy, readingOf}
 use Rattle.model.proofs.Tests.{first, second, leb-true, eqb-true}
 use Rattle.model.proofs.Checks.{unless-passed}
@@ -44,8 +44,8 @@ in-range c n h =
 pub record Sound (f : List ℕ) : Type 0 where
   pub long : 16 ≤ length f
   pub edition : editionOf f ≡ 1
-  pub extent : headerOf f .start + 4 * headerOf f .records + 16 ≡ length f
-  pub range : InRange (headerOf f .counts) (headerOf f .records)
+  pub extent : trailerOf f .start + 4 * trailerOf f .records + 16 ≡ length f
+  pub range : InRange (trailerOf f .counts) (trailerOf f .records)
   pub accepted : Accepted (recordingOf f)
 
 pub sound : (f : List ℕ) → fileCheck f ≡ Check.Passed → Sound f
@@ -56,25 +56,25 @@ sound f h =
     let (extent, c) = unless-passed _ _ _ b in
     let (range, d) = unless-passed _ _ _ c in
     let l = leb-true 16 (length f) long in
-    let x = eqb-true (headerOf f .start + 4 * headerOf f .records) (trailer f) extent in
+    let x = eqb-true (trailerOf f .start + 4 * trailerOf f .records) (trailerAt f) extent in
     record {
       long = l;
       edition = eqb-true (editionOf f) 1 edition;
       extent = omega arith;
-      range = in-range (headerOf f .counts) (headerOf f .records) range;
+      range = in-range (trailerOf f .counts) (trailerOf f .records) range;
       accepted = d;
     }
 
 -- reading accepts a file exactly where its check passes
-pub reading-passed : (f : List ℕ) (h : Header) → readingOf f ≡ Reading.Accepted h → fileCheck f ≡ Check.Passed
+pub reading-passed : (f : List ℕ) (h : Trailer) → readingOf f ≡ Reading.Accepted h → fileCheck f ≡ Check.Passed
 unfolding readingOf
 reading-passed f h q = go (fileCheck f) q
   where
-    go : (c : Check) → readingBy (headerOf f) c ≡ Reading.Accepted h → c ≡ Check.Passed
+    go : (c : Check) → readingBy (trailerOf f) c ≡ Reading.Accepted h → c ≡ Check.Passed
     go Check.Passed q = refl
     go (Check.Failed r) q = let z : _≡_ {A = ℕ} 0 1 = cc in absurd (omega arith)
 
-pub accepted-recording : (f : List ℕ) (h : Header) → readingOf f ≡ Reading.Accepted h → Accepted (recordingOf f)
+pub accepted-recording : (f : List ℕ) (h : Trailer) → readingOf f ≡ Reading.Accepted h → Accepted (recordingOf f)
 accepted-recording f h q = sound f (reading-passed f h q) .accepted
 
 -- ---- the events of record bytes
@@ -84,10 +84,10 @@ unfolding eventsOf
 events-length s = listOf-length (eventAt s) noEvent (length s / 4)
 
 -- the records' part has N whole records, and so many events
-pub bytes-length : (f : List ℕ) → Sound f → length (recordBytes f (headerOf f)) ≡ 4 * headerOf f .records
+pub bytes-length : (f : List ℕ) → Sound f → length (recordBytes f (trailerOf f)) ≡ 4 * trailerOf f .records
 unfolding recordBytes
 bytes-length f s = let x = s .extent in simp (length-take, length-drop) (omega arith)
 
-pub size-records : (f : List ℕ) → Sound f → size (recordingOf f) ≡ headerOf f .records
+pub size-records : (f : List ℕ) → Sound f → size (recordingOf f) ≡ trailerOf f .records
 unfolding recordingOf
-size-records f s = events-length (recordBytes f (headerOf f)) ∙ (let l = bytes-length f s in omega arith)
+size-records f s = events-length (recordBytes f (trailerOf f)) ∙ (let l = bytes-length f s in omega arith)

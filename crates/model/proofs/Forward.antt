@@ -48,7 +48,7 @@ module _ (E : Recording) (acc : Accepted E) (x : ℕ) (inside : x < size E) wher
   keep a b k l h = parted-rises up (size E) a b k l h
 
   -- an event is brought forward with its sources
-  brings : (a s : ℕ) → a < size E → List·Memᴰ s (sources E a) → up a ≡ true → up s ≡ true
+  brings : (a s : ℕ) → a < size E → List·Memᴰ s (sources (E .events) a) → up a ≡ true → up s ≡ true
   brings a s k h u = up-cause E acc x a s inside k (Memᴰ·append-left _ h) u
 
   -- ---- the order of events that the rules ask for
@@ -63,9 +63,9 @@ module _ (E : Recording) (acc : Accepted E) (x : ℕ) (inside : x < size E) wher
   -- from an event back to its task's first one, and to the fork
   fork-brings : (n f e : ℕ) → e < n → f < size E → e < size E → isFork (taskOf E e) (event E f) ≡ true → up e ≡ true → up f ≡ true
   fork-brings zero f e m k l t u = absurd (not-suc-le-zero m)
-  fork-brings (suc n) f e m k l t u = go (previous E e) refl (λ p i j s v. fork-brings n f p i k j s v)
+  fork-brings (suc n) f e m k l t u = go (previous (E .events) e) refl (λ p i j s v. fork-brings n f p i k j s v)
     where
-      go : (w : Found) → previous E e ≡ w
+      go : (w : Found) → previous (E .events) e ≡ w
           → ((p : ℕ) → p < n → p < size E → isFork (taskOf E p) (event E f) ≡ true → up p ≡ true → up f ≡ true) → up f ≡ true
       go Found.Nothing q ih = brings e f l (has-fork E e f q (fork-found E f₀ file (taskOf E e) f k t)) u
       go (Found.At p) q ih =
@@ -80,9 +80,9 @@ module _ (E : Recording) (acc : Accepted E) (x : ℕ) (inside : x < size E) wher
   keeps-join : (j e : ℕ) → j < size E → e < size E → isJoin (taskOf E e) (event E j) ≡ true → Precedes o e j
   keeps-join j e k l t = keep e j (file-lower E e j l k (join-last E f₀ file j e k l t)) k (join-brings j e k l t)
 
-  keeps-match : (e s : ℕ) → e < size E → matched E e ≡ Found.At s → Precedes o s e
+  keeps-match : (e s : ℕ) → e < size E → matched (E .events) e ≡ Found.At s → Precedes o s e
   keeps-match e s l q =
-      keep s e (matched-lower E acc e s l q) l (up-cause E acc x e s inside l (Memᴰ·append-right (sources E e) (in-found q)))
+      keep s e (matched-lower E acc e s l q) l (up-cause E acc x e s inside l (Memᴰ·append-right (sources (E .events) e) (in-found q)))
 
   -- ---- the four rules
 
@@ -146,7 +146,7 @@ module _ (E : Recording) (acc : Accepted E) (x : ℕ) (inside : x < size E) wher
       at a = isWait S (event E a) && leb (place o a) (place o e)
 
       M : ℕ → ℕ → Type 0
-      M a s = (isWait S (event E a) ≡ true) × (matched E a ≡ Found.At s)
+      M a s = (isWait S (event E a) ≡ true) × (matched (E .events) a ≡ Found.At s)
 
       rank : (a s : ℕ) → M a s → tally (λ w. isWait S (event E w)) a ≡ tally (λ b. isSignal S (event E b)) s
       rank a s (w, q) =

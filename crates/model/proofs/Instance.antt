@@ -9,7 +9,7 @@ use native.Mathlib.Omega.{arith}
 use Rattle.model.specs.declared.Reading.{Reading}
 use Rattle.model.specs.Numbers.{sum, count, filter, listFrom, each, picked, lastOf, nth, largest, insert, sort, kthLeast}
 use Rattle.model.specs.Recording.{event, waitKept, lifeKept, classOf, knownKind, named, recordCheck, firstFault}
-use Rattle.model.specs.File.{u16At, u32At, eventAt, eventsOf, headerOf, editionOf, recordBytes, recordingOf}
+use Rattle.model.specs.File.{u16At, u32At, eventAt, eventsOf, trailerOf, editionOf, recordBytes, recordingOf}
 use Rattle.model.specs.Reading.{extentMet, inRange, fileCheck, readingOf}
 use Rattle.model.specs.Vectors.{position, start, ordered, unordered}
 use Rattle.model.specs.Passes.{sources, gathered, stepOne, signalsOn, waitsOn, needed, candidates, served, raised, passTo, pass, further, run}
@@ -18,20 +18,20 @@ use Rattle.model.specs.Pairs.{conflict, racePair, mark, Entry, entriesOf
 use Rattle.model.proofs.Starred.{G}
 
 pub record Instance : Type 0 where
-  pub accepted : readingOf G ≡ Reading.Accepted (headerOf G)
+  pub accepted : readingOf G ≡ Reading.Accepted (trailerOf G)
   pub listed-sure : List·Memᴰ (record { first = 2; second = 3; mark = 1 }) (listed (recordingOf G) 37)
   pub conflicting : conflict (event (recordingOf G) 0) (event (recordingOf G) 2) ≡ true
-  pub off-list : (m : ℕ) → ¬ (OnList (recordingOf G) 37 0 2 m)
+  pub off-list : (m : ℕ) → ¬ (OnList (recordingOf G) 0 2 37 m)
 
 sure : Entry
 sure = record { first = 2; second = 3; mark = 1 }
 
 one-entry : listed (recordingOf G) 37 ≡ sure ∷ []
-unfolding sure sum count filter listFrom each picked lastOf nth largest insert sort kthLeast u16At u32At eventAt eventsOf headerOf recordBytes recordingOf position start ordered unordered sources gathered stepOne signalsOn waitsOn needed candidates served raised passTo pass further run matched recordedTo recorded conflict racePair mark entriesOf cellEntries entries listed
+unfolding sure sum count filter listFrom each picked lastOf nth largest insert sort kthLeast u16At u32At eventAt eventsOf trailerOf recordBytes recordingOf position start ordered unordered sources gathered stepOne signalsOn waitsOn needed candidates served raised passTo pass further run matched recordedTo recorded conflict racePair mark entriesOf cellEntries entries listed
 one-entry = refl
 
 pub instance : Instance
-unfolding sure sum count listFrom waitKept lifeKept classOf knownKind named recordCheck firstFault u16At u32At eventAt eventsOf headerOf editionOf recordBytes recordingOf extentMet inRange fileCheck readingOf conflict
+unfolding sure sum count listFrom waitKept lifeKept classOf knownKind named recordCheck firstFault u16At u32At eventAt eventsOf trailerOf editionOf recordBytes recordingOf extentMet inRange fileCheck readingOf conflict
 instance =
     record {
       accepted = refl;
@@ -41,7 +41,7 @@ instance =
     }
   where
     -- the one entry is neither of event 0
-    either : (m : ℕ) → OnList (recordingOf G) 37 0 2 m → (record { first = 0; second = 2; mark = m } ≡ sure) ⊎ (record { first = 2; second = 0; mark = m } ≡ sure)
+    either : (m : ℕ) → OnList (recordingOf G) 0 2 37 m → (record { first = 0; second = 2; mark = m } ≡ sure) ⊎ (record { first = 2; second = 0; mark = m } ≡ sure)
     either m (inl k) = inl (List·Memᴰ·eq-of-singleton (subst (List·Memᴰ _) one-entry k))
     either m (inr k) = inr (List·Memᴰ·eq-of-singleton (subst (List·Memᴰ _) one-entry k))
 

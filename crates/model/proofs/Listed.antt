@@ -78,27 +78,27 @@ module _ (E : Recording) (X R : Vectors) where
 -- ---- the parts of a race pair
 
 module _ (E : Recording) (X : Vectors) (a e : ℕ) (h : racePair E X a e ≡ true) where
-  parts : (ltb a e ≡ true) × (conflict (event E a) (event E e) ≡ true) × (unordered E X a e ≡ true)
+  parts : (ltb a e ≡ true) × (conflict (event E a) (event E e) ≡ true) × (unordered (E .events) X a e ≡ true)
   unfolding racePair
-  parts = all-three (ltb a e) (conflict (event E a) (event E e)) (unordered E X a e) h
+  parts = all-three (ltb a e) (conflict (event E a) (event E e)) (unordered (E .events) X a e) h
 
   pub pair-lower : a < e
   pair-lower = ltb-true a e (parts .0)
 
 -- lower numbers order less
-pub ordered-more : (E : Recording) (X Y : Vectors) → AtMost X Y → (a b : ℕ) → ordered E X a b ≡ true → ordered E Y a b ≡ true
+pub ordered-more : (E : Recording) (X Y : Vectors) → AtMost X Y → (a b : ℕ) → ordered (E .events) X a b ≡ true → ordered (E .events) Y a b ≡ true
 unfolding ordered
 ordered-more E X Y up a b h =
-    both (first (not (eqb a b)) _ h) (le-leb _ _ (le-trans (leb-true (position E a) (number X b (taskOf E a)) (second (not (eqb a b)) _ h)) (up b (taskOf E a))))
+    both (first (not (eqb a b)) _ h) (le-leb _ _ (le-trans (leb-true (position (E .events) a) (number X b (taskOf E a)) (second (not (eqb a b)) _ h)) (up b (taskOf E a))))
 
 pub race-more : (E : Recording) (X Y : Vectors) → AtMost X Y → (a e : ℕ) → racePair E Y a e ≡ true → racePair E X a e ≡ true
 unfolding racePair unordered
 race-more E X Y up a e h =
     let (l, c, u) = parts E Y a e h in
-    both (both l c) (both (still a e (first _ (not (ordered E Y e a)) u)) (still e a (second (not (ordered E Y a e)) _ u)))
+    both (both l c) (both (still a e (first _ (not (ordered (E .events) Y e a)) u)) (still e a (second (not (ordered (E .events) Y a e)) _ u)))
   where
-    still : (a b : ℕ) → not (ordered E Y a b) ≡ true → not (ordered E X a b) ≡ true
-    still a b q = to-not (fails (ordered E X a b) (λ t. clash (ordered-more E X Y up a b t) (of-not _ q)))
+    still : (a b : ℕ) → not (ordered (E .events) Y a b) ≡ true → not (ordered (E .events) X a b) ≡ true
+    still a b q = to-not (fails (ordered (E .events) X a b) (λ t. clash (ordered-more E X Y up a b t) (of-not _ q)))
 
 -- a conflict is on a cell
 pub conflict-cell : (c : Counts) (v w : Event) → conflict v w ≡ true → namesOf c (classOf (v .kind)) ≡ c .cells

@@ -32,7 +32,7 @@ module _ (E : Recording) (acc : Accepted E) where
   file = file-admissible E acc
 
   -- what the safe vectors order comes so in every admissible order
-  pub ordered-always : (b a e : ℕ) → a < size E → e < size E → ordered E (run E b .vectors) a e ≡ true → Always E a e
+  pub ordered-always : (b a e : ℕ) → a < size E → e < size E → ordered (E .events) (run E b .vectors) a e ≡ true → Always E a e
   ordered-always b a e k l t o adm = ordered-precedes E o adm (run E b .vectors) (run-safe E o adm b) a e k l t
 
   -- fewer than k candidates never happens: not in any pass of any run
@@ -48,7 +48,7 @@ module _ (E : Recording) (acc : Accepted E) where
 
   -- a conflicting pair that neither way is ordered is on the list
   put : (b a e : ℕ) → a < e → e < size E → conflict (event E a) (event E e) ≡ true
-      → ordered E (run E b .vectors) a e ≡ false → ordered E (run E b .vectors) e a ≡ false → OnList E b a e (mark E (recorded E) a e)
+      → ordered (E .events) (run E b .vectors) a e ≡ false → ordered (E .events) (run E b .vectors) e a ≡ false → OnList E a e b (mark E (recorded E) a e)
   unfolding listed racePair unordered
   put b a e k l t p q =
       inl
@@ -56,11 +56,11 @@ module _ (E : Recording) (acc : Accepted E) where
       (subst (λ (n : ℕ). objectOf E a < n) (conflict-cell (E .counts) (event E a) (event E e) t) (object-inside E acc a (omega arith)))
       (both (both (lt-ltb a e k) t) (both (to-not p) (to-not q))))
 
-  off-list : (b a e : ℕ) → a < e → e < size E → conflict (event E a) (event E e) ≡ true → ((m : ℕ) → ¬ (OnList E b a e m)) → Always E a e
+  off-list : (b a e : ℕ) → a < e → e < size E → conflict (event E a) (event E e) ≡ true → ((m : ℕ) → ¬ (OnList E a e b m)) → Always E a e
   off-list b a e k l t none =
-      cases (ordered E (run E b .vectors) a e) (λ p. ordered-always b a e (omega arith) l p)
+      cases (ordered (E .events) (run E b .vectors) a e) (λ p. ordered-always b a e (omega arith) l p)
       (λ p.
-      cases (ordered E (run E b .vectors) e a)
+      cases (ordered (E .events) (run E b .vectors) e a)
       (λ q. let r = file-lower E e a l (omega arith) (ordered-always b e a l (omega arith) q (fileOrder E) file) in absurd (omega arith))
       (λ q. absurd (none (mark E (recorded E) a e) (put b a e k l t p q))))
 
@@ -70,7 +70,7 @@ module _ (E : Recording) (acc : Accepted E) where
   both-ways : (a e : ℕ) → a < e → e < size E → mark E (recorded E) a e ≡ 1 → Sometimes E a e × Sometimes E e a
   unfolding mark unordered ordered
   both-ways a e less l m =
-      let apart = of-not (ordered E (recorded E) a e) (first _ (not (ordered E (recorded E) e a)) (is-sure _ m)) in
+      let apart = of-not (ordered (E .events) (recorded E) a e) (first _ (not (ordered (E .events) (recorded E) e a)) (is-sure _ m)) in
       let behind = and-false (not (eqb a e)) (upTo E (recorded E) e a) apart (to-not (ne-eqb a e (λ q. omega arith))) in
       ((fileOrder E, file, file-precedes E a e less l), (bringForward E (recorded E) e, forward-admissible E acc e l, forward-precedes E acc e l a behind))
     where
@@ -91,7 +91,7 @@ module _ (E : Recording) (acc : Accepted E) where
 
 module _ (E : Recording) where
   -- ordered before is kept by a larger budget
-  pub ordered-stays : (b d : ℕ) → b ≤ d → (a e : ℕ) → ordered E (run E b .vectors) a e ≡ true → ordered E (run E d .vectors) a e ≡ true
+  pub ordered-stays : (b d : ℕ) → b ≤ d → (a e : ℕ) → ordered (E .events) (run E b .vectors) a e ≡ true → ordered (E .events) (run E d .vectors) a e ≡ true
   ordered-stays b d h = ordered-more E (run E b .vectors) (run E d .vectors) (budget-up E b d h)
 
   -- an entry of a larger budget is one of the smaller, with its mark
@@ -105,7 +105,7 @@ module _ (E : Recording) where
       (entry-in E (run E b .vectors) (recorded E) (r .a) (r .e) (omega arith) top (r .cell)
       (race-more E (run E b .vectors) (run E d .vectors) (budget-up E b d h) (r .a) (r .e) (r .race)))
 
-  adds-none : (b d : ℕ) → b ≤ d → (a e m : ℕ) → OnList E d a e m → OnList E b a e m
+  adds-none : (b d : ℕ) → b ≤ d → (a e m : ℕ) → OnList E a e d m → OnList E a e b m
   adds-none b d h a e m (inl k) = inl (entry-stays b d h _ k)
   adds-none b d h a e m (inr k) = inr (entry-stays b d h _ k)
 
@@ -120,7 +120,7 @@ module _ (E : Recording) where
         ap (λ (x : Entry). x .mark) (r .same) ∙ subst₂ (λ (x y : ℕ). mark E (recorded E) (r .a) (r .e) ≡ mark E (recorded E) x y) u v refl,
       )
 
-  one-mark : (b d a e m n : ℕ) → OnList E d a e m → OnList E b a e n → m ≡ n
+  one-mark : (b d a e m n : ℕ) → OnList E a e d m → OnList E a e b n → m ≡ n
   one-mark b d a e m n (inl k) (inl l) = entry-mark d a e m k .1 ∙ sym (entry-mark b a e n l .1)
   one-mark b d a e m n (inl k) (inr l) = let x = entry-mark d a e m k .0 in let y = entry-mark b e a n l .0 in absurd (omega arith)
   one-mark b d a e m n (inr k) (inl l) = let x = entry-mark d e a m k .0 in let y = entry-mark b a e n l .0 in absurd (omega arith)

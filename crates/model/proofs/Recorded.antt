@@ -37,13 +37,13 @@ pub record Match (E : Recording) (e s : ℕ) : Type 0 where
   pub signal : isSignal (objectOf E e) (event E s) ≡ true
   pub rank : tally (λ b. isSignal (objectOf E e) (event E b)) s ≡ tally (λ w. isWait (objectOf E e) (event E w)) e
 
-pub matched-wait : (E : Recording) (e s : ℕ) → matched E e ≡ Found.At s → (eqb (kindOf E e) 2 ≡ true) × Match E e s
+pub matched-wait : (E : Recording) (e s : ℕ) → matched (E .events) e ≡ Found.At s → (eqb (kindOf E e) 2 ≡ true) × Match E e s
 unfolding matched signalsOn
 matched-wait E e s h = go (eqb (kindOf E e) 2) refl h
   where
-    go : (b : Bool) → eqb (kindOf E e) 2 ≡ b → matchWhere E e b ≡ Found.At s → (eqb (kindOf E e) 2 ≡ true) × Match E e s
+    go : (b : Bool) → eqb (kindOf E e) 2 ≡ b → matchWhere (E .events) e b ≡ Found.At s → (eqb (kindOf E e) 2 ≡ true) × Match E e s
     go true q h =
-        let (inside, signal, rank) = nth-of (λ b. isSignal (objectOf E e) (event E b)) (size E) (waitsBefore E e) s h in
+        let (inside, signal, rank) = nth-of (λ b. isSignal (objectOf E e) (event E b)) (size E) (waitsBefore (E .events) e) s h in
         (q, record { inside = inside; signal = signal; rank = rank })
     go false q h = let z : _≡_ {A = ℕ} 0 1 = cc in absurd (omega arith)
 
@@ -63,7 +63,7 @@ module _ (E : Recording) (acc : Accepted E) where
           tally-ext (λ a. p a && sooner (fileOrder E) a e) (λ a. p a && ltb a e) (size E) (λ a k. ap (λ (b : Bool). p a && b) (file-test E a e k l))
           ∙ tally-cut p e (size E) (omega arith)
 
-  pub matched-lower : (e s : ℕ) → e < size E → matched E e ≡ Found.At s → s < e
+  pub matched-lower : (e s : ℕ) → e < size E → matched (E .events) e ≡ Found.At s → s < e
   matched-lower e s l h =
       cases (ltb s e) (λ t. ltb-true s e t)
       (λ t.
@@ -73,21 +73,21 @@ module _ (E : Recording) (acc : Accepted E) where
       let g = tally-grow (λ b. isSignal (objectOf E e) (event E b)) e s (ltb-false s e t) in
       absurd (omega arith))
 
-  pub matched-found : (e : ℕ) → e < size E → eqb (kindOf E e) 2 ≡ true → (s : ℕ) × (matched E e ≡ Found.At s)
+  pub matched-found : (e : ℕ) → e < size E → eqb (kindOf E e) 2 ≡ true → (s : ℕ) × (matched (E .events) e ≡ Found.At s)
   unfolding matched signalsOn
   matched-found e l q =
       let signals = tally-grow (λ b. isSignal (objectOf E e) (event E b)) e (size E) (omega arith) in
       let before = wait-before e l q in
-      let (s, h) = nth-found (λ b. isSignal (objectOf E e) (event E b)) (size E) (waitsBefore E e) (omega arith) in
-      (s, ap (matchWhere E e) q ∙ h)
+      let (s, h) = nth-found (λ b. isSignal (objectOf E e) (event E b)) (size E) (waitsBefore (E .events) e) (omega arith) in
+      (s, ap (matchWhere (E .events) e) q ∙ h)
 
   -- what an event follows was recorded before it
-  pub causes-lower : (e s : ℕ) → e < size E → List·Memᴰ s (causes E e) → s < e
-  causes-lower e s l h = go (List·Memᴰ·append-cases (sources E e) h)
+  pub causes-lower : (e s : ℕ) → e < size E → List·Memᴰ s (causes (E .events) e) → s < e
+  causes-lower e s l h = go (List·Memᴰ·append-cases (sources (E .events) e) h)
     where
-      go : List·Memᴰ s (sources E e) ⊎ List·Memᴰ s (found (matched E e)) → s < e
+      go : List·Memᴰ s (sources (E .events) e) ⊎ List·Memᴰ s (found (matched (E .events) e)) → s < e
       go (inl k) = let (a, b) = source-precedes E (fileOrder E) file e s l (source-of E e s k) in file-lower E s e a l b
-      go (inr k) = matched-lower e s l (of-found (matched E e) k)
+      go (inr k) = matched-lower e s l (of-found (matched (E .events) e) k)
 
 -- ---- the recorded vectors
 
@@ -96,17 +96,17 @@ module _ (E : Recording) where
   unfolding recordedTo
   recordedTo-shaped zero h = start-shaped E
   recordedTo-shaped (suc n) h =
-      set-shaped (size E) (tasks E) (recordedTo E n) n (gathered E (recordedTo E n) (causes E n) n) h
-      (gathered-length E (recordedTo E n) (causes E n) n) (recordedTo-shaped n (omega arith))
+      set-shaped (size E) (tasks E) (recordedTo E n) n (gathered E (recordedTo E n) (causes (E .events) n) n) h
+      (gathered-length E (recordedTo E n) (causes (E .events) n) n) (recordedTo-shaped n (omega arith))
 
-  recorded-suc : (n : ℕ) → recordedTo E (suc n) ≡ set (recordedTo E n) n (gathered E (recordedTo E n) (causes E n) n)
+  recorded-suc : (n : ℕ) → recordedTo E (suc n) ≡ set (recordedTo E n) n (gathered E (recordedTo E n) (causes (E .events) n) n)
   unfolding recordedTo
   recorded-suc n = refl
 
   step-other : (n e t : ℕ) → ¬ (e ≡ n) → number (recordedTo E (suc n)) e t ≡ number (recordedTo E n) e t
   step-other n e t d =
       ap (λ (X : Vectors). number X e t) (recorded-suc n)
-      ∙ number-set-other (recordedTo E n) n e t (gathered E (recordedTo E n) (causes E n) n) d
+      ∙ number-set-other (recordedTo E n) n e t (gathered E (recordedTo E n) (causes (E .events) n) n) d
 
   -- a vector is made once
   made-once : (n m e t : ℕ) → e < n → n ≤ m → number (recordedTo E m) e t ≡ number (recordedTo E n) e t
@@ -123,10 +123,10 @@ module _ (E : Recording) where
   recorded-shaped = recordedTo-shaped (size E) (le-refl (size E))
 
 -- the event before e in its task is one that e follows, at or after any other before e
-previous-cause : (E : Recording) (a e : ℕ) → a < e → taskOf E a ≡ taskOf E e → (p : ℕ) × (a ≤ p) × (p < e) × (taskOf E p ≡ taskOf E e) × List·Memᴰ p (causes E e)
+previous-cause : (E : Recording) (a e : ℕ) → a < e → taskOf E a ≡ taskOf E e → (p : ℕ) × (a ≤ p) × (p < e) × (taskOf E p ≡ taskOf E e) × List·Memᴰ p (causes (E .events) e)
 previous-cause E a e l t =
     let (p, h, r, k) = last-found (λ a. ofTask (taskOf E e) (event E a)) e a l (eq-eqb _ _ t) in
-    (p, k, r .inside, eqb-true (taskOf E p) (taskOf E e) (r .passes), Memᴰ·append-left (found (matched E e)) (has-previous E e p h))
+    (p, k, r .inside, eqb-true (taskOf E p) (taskOf E e) (r .passes), Memᴰ·append-left (found (matched (E .events) e)) (has-previous E e p h))
 
 -- ---- what is ordered is ordered all the way down
 
@@ -135,26 +135,26 @@ module _ (E : Recording) (acc : Accepted E) where
   R = recorded E
 
   -- the recorded vector of e: the largest of its start and of the recorded vectors that it follows
-  recorded-at : (e t : ℕ) → e < size E → t < (tasks E) → number R e t ≡ max (number (start E) e t) (largest (λ s. number R s t) (causes E e))
+  recorded-at : (e t : ℕ) → e < size E → t < (tasks E) → number R e t ≡ max (number (start E) e t) (largest (λ s. number R s t) (causes (E .events) e))
   unfolding recorded largest
   recorded-at e t l k =
       made-once E (suc e) (size E) e t (le-refl (suc e)) l
       ∙ ap (λ (X : Vectors). number X e t) (recorded-suc E e)
-      ∙ number-set-same (recordedTo E e) e t (gathered E (recordedTo E e) (causes E e) e) (let r = recordedTo-shaped E e (omega arith) .rows in omega arith)
-      ∙ gathered-at E (recordedTo E e) (causes E e) e t k
+      ∙ number-set-same (recordedTo E e) e t (gathered E (recordedTo E e) (causes (E .events) e) e) (let r = recordedTo-shaped E e (omega arith) .rows in omega arith)
+      ∙ gathered-at E (recordedTo E e) (causes (E .events) e) e t k
       ∙ ap₂ (λ (a b : ℕ). max a b) (not-yet E e e t (le-refl e))
-      (largest-ext (λ s. number (recordedTo E e) s t) (λ s. number (recordedTo E (size E)) s t) (causes E e)
+      (largest-ext (λ s. number (recordedTo E e) s t) (λ s. number (recordedTo E (size E)) s t) (causes (E .events) e)
       (λ s h. sym (made-once E e (size E) s t (causes-lower E acc e s l h) (omega arith))))
 
   -- each event has its own position
-  own-number : (e : ℕ) → e < size E → position E e ≤ number R e (taskOf E e)
+  own-number : (e : ℕ) → e < size E → position (E .events) e ≤ number R e (taskOf E e)
   own-number e l =
       let k = task-inside E acc e l in
-      let s : number (start E) e (taskOf E e) ≡ position E e = start-at E e (taskOf E e) l k ∙ rw (eq-eqb (taskOf E e) (taskOf E e) refl) in
+      let s : number (start E) e (taskOf E e) ≡ position (E .events) e = start-at E e (taskOf E e) l k ∙ rw (eq-eqb (taskOf E e) (taskOf E e) refl) in
       le-trans (le-of-eq (sym s)) (le-trans (le-max-left _ _) (le-of-eq (sym (recorded-at e (taskOf E e) l k))))
 
   -- an event has at least the numbers of what it follows
-  cause-below : (e s t : ℕ) → e < size E → List·Memᴰ s (causes E e) → number R s t ≤ number R e t
+  cause-below : (e s t : ℕ) → e < size E → List·Memᴰ s (causes (E .events) e) → number R s t ≤ number R e t
   cause-below e s t l h =
       cases (ltb t (tasks E))
       (λ k.
@@ -166,24 +166,24 @@ module _ (E : Recording) (acc : Accepted E) where
 
   -- what e has reached it has with all its numbers
   abbrev Carried : ℕ → Type 0
-  Carried e = (a t : ℕ) → a < size E → position E a ≤ number R e (taskOf E a) → number R a t ≤ number R e t
+  Carried e = (a t : ℕ) → a < size E → position (E .events) a ≤ number R e (taskOf E a) → number R a t ≤ number R e t
 
   carry : (e : ℕ) → e < size E → ((s : ℕ) → s < e → Carried s) → Carried e
   carry e l ih a t k q =
       let inside = task-inside E acc a k in
       let pos = position-pos E a in
-      let reached = subst (λ (v : ℕ). position E a ≤ v) (recorded-at e (taskOf E a) l inside) q in
-      cases (leb (position E a) (number (start E) e (taskOf E a)))
-      (λ u. own (subst (λ (v : ℕ). position E a ≤ v) (start-at E e (taskOf E a) l inside) (leb-true _ _ u)))
+      let reached = subst (λ (v : ℕ). position (E .events) a ≤ v) (recorded-at e (taskOf E a) l inside) q in
+      cases (leb (position (E .events) a) (number (start E) e (taskOf E a)))
+      (λ u. own (subst (λ (v : ℕ). position (E .events) a ≤ v) (start-at E e (taskOf E a) l inside) (leb-true _ _ u)))
       (λ u.
-      let over = leb-false (position E a) (number (start E) e (taskOf E a)) u in
-      let (s, h, r) = largest-reached (λ s. number R s (taskOf E a)) (position E a) (causes E e) pos (omega arith) in
+      let over = leb-false (position (E .events) a) (number (start E) e (taskOf E a)) u in
+      let (s, h, r) = largest-reached (λ s. number R s (taskOf E a)) (position (E .events) a) (causes (E .events) e) pos (omega arith) in
       through s h r)
     where
       Goal : Type 0
       Goal = number R a t ≤ number R e t
 
-      through : (s : ℕ) → List·Memᴰ s (causes E e) → position E a ≤ number R s (taskOf E a) → Goal
+      through : (s : ℕ) → List·Memᴰ s (causes (E .events) e) → position (E .events) a ≤ number R s (taskOf E a) → Goal
       through s h p = le-trans (ih s (causes-lower E acc e s l h) a t k p) (cause-below e s t l h)
 
       -- an event of e's own task, by the event before e in it
@@ -192,17 +192,17 @@ module _ (E : Recording) (acc : Accepted E) where
           let (p, x, y, z, h) = previous-cause E a e m same in
           through p h
           (le-trans (position-grows E a p x (same ∙ sym z))
-          (subst (λ (w : ℕ). position E p ≤ number R p w) (z ∙ sym same) (own-number p (omega arith))))
+          (subst (λ (w : ℕ). position (E .events) p ≤ number R p w) (z ∙ sym same) (own-number p (omega arith))))
 
-      own : position E a ≤ cond (eqb (taskOf E a) (taskOf E e)) (position E e) 0 → Goal
+      own : position (E .events) a ≤ cond (eqb (taskOf E a) (taskOf E e)) (position (E .events) e) 0 → Goal
       own p =
           cases (eqb (taskOf E a) (taskOf E e))
           (λ u.
           let same = eqb-true (taskOf E a) (taskOf E e) u in
-          let low : position E a ≤ position E e = rw u at p in
+          let low : position (E .events) a ≤ position (E .events) e = rw u at p in
           compared a e (λ m. earlier m same) (λ d. le-of-eq (ap (λ (x : ℕ). number R x t) d))
           (λ m. let r = position-rises E e a m (sym same) in absurd (omega arith)))
-          (λ u. let pos = position-pos E a in let low : position E a ≤ 0 = rw u at p in absurd (omega arith))
+          (λ u. let pos = position-pos E a in let low : position (E .events) a ≤ 0 = rw u at p in absurd (omega arith))
 
   carried-below : (n e : ℕ) → e < n → e < size E → Carried e
   carried-below zero e h l = absurd (not-suc-le-zero h)
@@ -212,7 +212,7 @@ module _ (E : Recording) (acc : Accepted E) where
 
 -- the vectors put event a at or before x
 abbrev pub upTo : Recording → Vectors → ℕ → ℕ → Bool
-upTo E X x a = leb (position E a) (number X x (taskOf E a))
+upTo E X x a = leb (position (E .events) a) (number X x (taskOf E a))
 
 module _ (E : Recording) (acc : Accepted E) where
   pub up-self : (x : ℕ) → x < size E → upTo E (recorded E) x x ≡ true
@@ -220,9 +220,9 @@ module _ (E : Recording) (acc : Accepted E) where
 
   pub up-own : (x a b : ℕ) → a ≤ b → taskOf E a ≡ taskOf E b → upTo E (recorded E) x b ≡ true → upTo E (recorded E) x a ≡ true
   up-own x a b h t u =
-      le-leb _ _ (le-trans (position-grows E a b h t) (subst (λ (w : ℕ). position E b ≤ number (recorded E) x w) (sym t) (leb-true _ _ u)))
+      le-leb _ _ (le-trans (position-grows E a b h t) (subst (λ (w : ℕ). position (E .events) b ≤ number (recorded E) x w) (sym t) (leb-true _ _ u)))
 
-  pub up-cause : (x a s : ℕ) → x < size E → a < size E → List·Memᴰ s (causes E a) → upTo E (recorded E) x a ≡ true → upTo E (recorded E) x s ≡ true
+  pub up-cause : (x a s : ℕ) → x < size E → a < size E → List·Memᴰ s (causes (E .events) a) → upTo E (recorded E) x a ≡ true → upTo E (recorded E) x s ≡ true
   up-cause x a s l k h u =
       let m = causes-lower E acc a s k h in
       le-leb _ _

@@ -23,7 +23,7 @@ abbrev pub Rising : Recording → Vectors → Type 0
 Rising E X = (a e t : ℕ) → a < e → e < size E → taskOf E a ≡ taskOf E e → number X a t ≤ number X e t
 
 -- it is enough that it has those of the event before it, which leads back to the others
-rising-by : (E : Recording) (X : Vectors) → ((p e t : ℕ) → e < size E → previous E e ≡ Found.At p → number X p t ≤ number X e t)
+rising-by : (E : Recording) (X : Vectors) → ((p e t : ℕ) → e < size E → previous (E .events) e ≡ Found.At p → number X p t ≤ number X e t)
     → (n a e t : ℕ) → e < n → a < e → e < size E → taskOf E a ≡ taskOf E e → number X a t ≤ number X e t
 rising-by E X step zero a e t h k l q = absurd (not-suc-le-zero h)
 rising-by E X step (suc n) a e t h k l q =
@@ -44,9 +44,9 @@ start-rises E a e t k l q =
     let p = position-rises E a e k q in
     cases (eqb t (taskOf E e))
     (λ u.
-    let v : cond (eqb t (taskOf E a)) (position E a) 0 ≡ position E a = rw (q, u) in
-    let w : cond (eqb t (taskOf E e)) (position E e) 0 ≡ position E e = rw u in omega arith)
-    (λ u. let v : cond (eqb t (taskOf E a)) (position E a) 0 ≡ 0 = rw (q, u) in omega arith))
+    let v : cond (eqb t (taskOf E a)) (position (E .events) a) 0 ≡ position (E .events) a = rw (q, u) in
+    let w : cond (eqb t (taskOf E e)) (position (E .events) e) 0 ≡ position (E .events) e = rw u in omega arith)
+    (λ u. let v : cond (eqb t (taskOf E a)) (position (E .events) a) 0 ≡ 0 = rw (q, u) in omega arith))
     (λ h. le-trans (le-of-eq (beyond E (start E) a t (start-shaped E) (omega arith) (ltb-false t (tasks E) h))) zero-le)
 
 module _ (E : Recording) (X : Vectors) (shape : Shaped (size E) (tasks E) X) where
@@ -61,7 +61,7 @@ module _ (E : Recording) (X : Vectors) (shape : Shaped (size E) (tasks E) X) whe
       le-ind (λ m. number (passTo E X m) e t ≡ number (passTo E X n) e t) refl (λ m l p. turn-other m e t (λ q. omega arith) ∙ p) (size E) h
 
   -- at its turn an event takes at least the numbers of the event before it, whose turn is over
-  turn-takes : (p e t : ℕ) → e < size E → previous E e ≡ Found.At p → number (pass E X) p t ≤ number (pass E X) e t
+  turn-takes : (p e t : ℕ) → e < size E → previous (E .events) e ≡ Found.At p → number (pass E X) p t ≤ number (pass E X) e t
   unfolding passTo
   turn-takes p e t l q =
       let Y = passTo E X e in

@@ -11,14 +11,14 @@ use lib.Dec.{leb, eqb}
 use lib.ListN.{length, getD, take, drop, length-append, length-take, length-drop, take-append-drop}
 use lib.Seq.{getD-append-add, getD-drop, ext-getD, take-at}
 use Rattle.model.specs.declared.Counts.{Counts}
-use Rattle.model.specs.declared.Header.{Header}
+use Rattle.model.specs.declared.Trailer.{Trailer}
 use Rattle.model.specs.declared.Check.{Check}
 use Rattle.model.specs.declared.Reading.{Reading}
 use Rattle.model.specs.declared.Written.{Written}
 use Rattle.model.specs.Numbers.{listFrom, listOf}
-use Rattle.model.specs.File.{u16At, u32At, trailer, headerOf, editionOf, recordBytes, recordingOf}
+use Rattle.model.specs.File.{u16At, u32At, trailerAt, trailerOf, editionOf, recordBytes, recordingOf}
 use Rattle.model.specs.Reading.{extentMet, inRange, fileCheck, readingBy, readingOf, recordsOf}
-use Rattle.model.specs.Writing.{u16Bytes, u32Bytes, trailerBytes, fileOf, recordsCheck, writingCheck, writtenBy, writtenOf, outAfter}
+use Rattle.model.specs.Writing.{u16Bytes, u32Bytes, trailerBytes, fileOf, recordsCheck, writingCheck, writtenBy, writtenOf, outAfterWriting}
 use Rattle.model.specs.RoundTrip.{Fits, Bytes, RoundTrip}
 use Rattle.model.proofs.Tests.{le-leb, eqb-true, eq-eqb}
 use Rattle.model.proofs.Checks.{unless-passed, then-passed}
@@ -44,15 +44,15 @@ in-range-fits s c h =
     let r = in-range c (length s / 4) h in
     record { tasks = omega (arith, r .few-tasks); semaphores = omega (arith, r .few-semaphores); cells = omega (arith, r .few-cells); records = omega (arith, r .few-records) }
 
-abbrev header : ℕ → ℕ → ℕ → ℕ → ℕ → Header
-header a n t s c = record { start = a; records = n; counts = record { tasks = t; semaphores = s; cells = c } }
+abbrev trailer : ℕ → ℕ → ℕ → ℕ → ℕ → Trailer
+trailer a n t s c = record { start = a; records = n; counts = record { tasks = t; semaphores = s; cells = c } }
 
-same-header : {a b n m t u s v c w : ℕ} → a ≡ b → n ≡ m → t ≡ u → s ≡ v → c ≡ w → header a n t s c ≡ header b m u v w
-same-header {a} {b} {n} {m} {t} {u} {s} {v} {c} {w} p q r x y =
-    ap₂ (λ (i j : ℕ). header i j t s c) p q ∙ ap₂ (λ (i j : ℕ). header b m i j c) r x ∙ ap (λ (i : ℕ). header b m u v i) y
+same-trailer : {a b n m t u s v c w : ℕ} → a ≡ b → n ≡ m → t ≡ u → s ≡ v → c ≡ w → trailer a n t s c ≡ trailer b m u v w
+same-trailer {a} {b} {n} {m} {t} {u} {s} {v} {c} {w} p q r x y =
+    ap₂ (λ (i j : ℕ). trailer i j t s c) p q ∙ ap₂ (λ (i j : ℕ). trailer b m i j c) r x ∙ ap (λ (i : ℕ). trailer b m u v i) y
 
 -- those of a file that reading accepts do
-fits-of : (f : List ℕ) → Sound f → Fits (recordBytes f (headerOf f)) (headerOf f .counts)
+fits-of : (f : List ℕ) → Sound f → Fits (recordBytes f (trailerOf f)) (trailerOf f .counts)
 fits-of f ok =
     let r = ok .range in
     let l = bytes-length f ok in
@@ -63,15 +63,15 @@ module _ (s : List ℕ) (c : Counts) where
   unfolding fileOf trailerBytes
   file-length = length-append s (trailerBytes (length s / 4) c)
 
-  trailer-place : (i : ℕ) → trailer (fileOf s c) + i ≡ length s + i
+  trailer-place : (i : ℕ) → trailerAt (fileOf s c) + i ≡ length s + i
   trailer-place i = let l = file-length in omega arith
 
   -- what stands at place i of the trailer
-  u16-trailer : (i : ℕ) → u16At (fileOf s c) (trailer (fileOf s c) + i) ≡ u16At (trailerBytes (length s / 4) c) i
+  u16-trailer : (i : ℕ) → u16At (fileOf s c) (trailerAt (fileOf s c) + i) ≡ u16At (trailerBytes (length s / 4) c) i
   unfolding fileOf
   u16-trailer i = ap (u16At (fileOf s c)) (trailer-place i) ∙ u16-after s (trailerBytes (length s / 4) c) i
 
-  u32-trailer : (i : ℕ) → u32At (fileOf s c) (trailer (fileOf s c) + i) ≡ u32At (trailerBytes (length s / 4) c) i
+  u32-trailer : (i : ℕ) → u32At (fileOf s c) (trailerAt (fileOf s c) + i) ≡ u32At (trailerBytes (length s / 4) c) i
   unfolding fileOf
   u32-trailer i = ap (u32At (fileOf s c)) (trailer-place i) ∙ u32-after s (trailerBytes (length s / 4) c) i
 
@@ -80,19 +80,19 @@ module _ (s : List ℕ) (c : Counts) where
   written-edition = u16-trailer 14
 
   module _ (fits : Fits s c) where
-    -- the header that reading finds
-    pub written-header : headerOf (fileOf s c) ≡ record { start = 0; records = length s / 4; counts = c }
-    unfolding headerOf trailerBytes u16At u32At
-    written-header =
+    -- the trailer that reading finds
+    pub written-trailer : trailerOf (fileOf s c) ≡ record { start = 0; records = length s / 4; counts = c }
+    unfolding trailerOf trailerBytes u16At u32At
+    written-trailer =
         let f = fileOf s c in
-        same-header (ap (u32At f) (sym (add-zero (trailer f))) ∙ u32-trailer 0) (u32-trailer 4 ∙ omega (arith, fits .records))
+        same-trailer (ap (u32At f) (sym (add-zero (trailerAt f))) ∙ u32-trailer 0) (u32-trailer 4 ∙ omega (arith, fits .records))
         (u16-trailer 8 ∙ omega (arith, fits .tasks)) (u16-trailer 10 ∙ omega (arith, fits .semaphores)) (u16-trailer 12 ∙ omega (arith, fits .cells))
 
     -- its records' part
-    pub written-bytes : length s % 4 ≡ 0 → recordBytes (fileOf s c) (headerOf (fileOf s c)) ≡ s
+    pub written-bytes : length s % 4 ≡ 0 → recordBytes (fileOf s c) (trailerOf (fileOf s c)) ≡ s
     unfolding recordBytes fileOf
     written-bytes whole =
-        ap (recordBytes (fileOf s c)) written-header ∙ take-at s (trailerBytes (length s / 4) c) (4 * (length s / 4)) (omega arith)
+        ap (recordBytes (fileOf s c)) written-trailer ∙ take-at s (trailerBytes (length s / 4) c) (4 * (length s / 4)) (omega arith)
 
     -- what writing refuses is exactly what reading the file it would have written refuses
     pub same-check : length s % 4 ≡ 0 → fileCheck (fileOf s c) ≡ recordsCheck s c
@@ -100,11 +100,11 @@ module _ (s : List ℕ) (c : Counts) where
     same-check whole =
         let f = fileOf s c in
         let l = file-length in
-        let h = written-header in
+        let h = written-trailer in
         let long : leb 16 (length f) ≡ true = le-leb 16 (length f) (omega arith) in
         let edition : eqb (editionOf f) 1 ≡ true = eq-eqb (editionOf f) 1 written-edition in
-        let extent : eqb (headerOf f .start + 4 * headerOf f .records) (trailer f) ≡ true =
-        ap (λ (x : Header). eqb (x .start + 4 * x .records) (trailer f)) h ∙ eq-eqb (0 + 4 * (length s / 4)) (trailer f) (omega arith) in
+        let extent : eqb (trailerOf f .start + 4 * trailerOf f .records) (trailerAt f) ≡ true =
+        ap (λ (x : Trailer). eqb (x .start + 4 * x .records) (trailerAt f)) h ∙ eq-eqb (0 + 4 * (length s / 4)) (trailerAt f) (omega arith) in
         let b = written-bytes whole in
         rw (long, edition, extent, b, h, eq-eqb (length s % 4) 0 whole)
 
@@ -157,38 +157,38 @@ unfolding u32At
 drop-after-four f n h i =
     ap₂ (λ (a b : ℕ). a + 65536 * b) (drop-after f n h i) (ap (u16At f) (add-assoc n i 2) ∙ drop-after f n h (i + 2))
 
-module _ (f : List ℕ) (bytes : Bytes f) (ok : Sound f) (none : headerOf f .start ≡ 0) where
-  tail-length : length (drop (trailer f) f) ≡ 16
+module _ (f : List ℕ) (bytes : Bytes f) (ok : Sound f) (none : trailerOf f .start ≡ 0) where
+  tail-length : length (drop (trailerAt f) f) ≡ 16
   tail-length = let long = ok .long in simp length-drop (omega arith)
 
-  tail-bytes : Bytes (drop (trailer f) f)
-  tail-bytes i = subst (λ (b : ℕ). b < 256) (sym (getD-drop (trailer f) f i 0)) (bytes (trailer f + i))
+  tail-bytes : Bytes (drop (trailerAt f) f)
+  tail-bytes i = subst (λ (b : ℕ). b < 256) (sym (getD-drop (trailerAt f) f i 0)) (bytes (trailerAt f + i))
 
-  own-trailer : trailerBytes (headerOf f .records) (headerOf f .counts) ≡ drop (trailer f) f
-  unfolding headerOf editionOf
+  own-trailer : trailerBytes (trailerOf f .records) (trailerOf f .counts) ≡ drop (trailerAt f) f
+  unfolding trailerOf editionOf
   own-trailer =
       let long = ok .long in
-      let inside : trailer f ≤ length f = omega arith in
-      let at = drop-after f (trailer f) inside in
-      let four = drop-after-four f (trailer f) inside in
-      ap (λ (x : Header). trailerBytes (x .records) (x .counts)) (same-header (ap (u32At f) (sym (add-zero (trailer f)))) (four 4) (at 8) (at 10) (at 12))
-      ∙ trailer-back (drop (trailer f) f) tail-length tail-bytes
-      (sym (ap (u32At f) (sym (add-zero (trailer f))) ∙ four 0) ∙ none) (sym (at 14) ∙ ok .edition)
+      let inside : trailerAt f ≤ length f = omega arith in
+      let at = drop-after f (trailerAt f) inside in
+      let four = drop-after-four f (trailerAt f) inside in
+      ap (λ (x : Trailer). trailerBytes (x .records) (x .counts)) (same-trailer (ap (u32At f) (sym (add-zero (trailerAt f)))) (four 4) (at 8) (at 10) (at 12))
+      ∙ trailer-back (drop (trailerAt f) f) tail-length tail-bytes
+      (sym (ap (u32At f) (sym (add-zero (trailerAt f))) ∙ four 0) ∙ none) (sym (at 14) ∙ ok .edition)
 
-  records-first : recordBytes f (headerOf f) ≡ take (trailer f) f
+  records-first : recordBytes f (trailerOf f) ≡ take (trailerAt f) f
   unfolding recordBytes
   records-first =
       let x = ok .extent in
-      ap₂ (λ (n k : ℕ). take n (drop k f)) (let n : 4 * headerOf f .records ≡ trailer f = omega arith in n) none
+      ap₂ (λ (n k : ℕ). take n (drop k f)) (let n : 4 * trailerOf f .records ≡ trailerAt f = omega arith in n) none
 
   -- the file written from its records and counts is the file
-  pub written-again : fileOf (recordBytes f (headerOf f)) (headerOf f .counts) ≡ f
+  pub written-again : fileOf (recordBytes f (trailerOf f)) (trailerOf f .counts) ≡ f
   unfolding fileOf
   written-again =
       let l = bytes-length f ok in
-      let n : length (recordBytes f (headerOf f)) / 4 ≡ headerOf f .records = omega arith in
-      ap₂ (λ (r : List ℕ) (m : ℕ). r ++ trailerBytes m (headerOf f .counts)) records-first n
-      ∙ ap (λ (r : List ℕ). take (trailer f) f ++ r) own-trailer ∙ take-append-drop (trailer f) f
+      let n : length (recordBytes f (trailerOf f)) / 4 ≡ trailerOf f .records = omega arith in
+      ap₂ (λ (r : List ℕ) (m : ℕ). r ++ trailerBytes m (trailerOf f .counts)) records-first n
+      ∙ ap (λ (r : List ℕ). take (trailerAt f) f ++ r) own-trailer ∙ take-append-drop (trailerAt f) f
 
 -- ---- the theorems
 
@@ -202,9 +202,9 @@ written-passed s c out n q = go (writingCheck s c out) refl q
     go (Check.Failed r) e q = let z : _≡_ {A = ℕ} 0 1 = cc in absurd (omega arith)
 
 read-written : (s : List ℕ) (c : Counts) (out : List ℕ) (n : ℕ) → writtenOf s c out ≡ Written.Length n
-    → (n ≡ length (fileOf s c)) × (outAfter s c out ≡ fileOf s c ++ drop n out)
+    → (n ≡ length (fileOf s c)) × (outAfterWriting s c out ≡ fileOf s c ++ drop n out)
     × (readingOf (fileOf s c) ≡ Reading.Accepted (record { start = 0; records = length s / 4; counts = c })) × (recordsOf (fileOf s c) ≡ s)
-unfolding writingCheck recordsCheck readingOf recordsOf outAfter
+unfolding writingCheck recordsCheck readingOf recordsOf outAfterWriting
 read-written s c out n q =
     let (passed, long) = written-passed s c out n q in
     let (checked, room) = then-passed (recordsCheck s c) _ passed in
@@ -215,28 +215,28 @@ read-written s c out n q =
     let same : fileCheck (fileOf s c) ≡ Check.Passed = same-check s c fits divided ∙ checked in (
       long ∙ sym (file-length s c),
       rw (passed, long),
-      rw (same, written-header s c fits),
+      rw (same, written-trailer s c fits),
       rw (same, written-bytes s c fits divided),
     )
 
-write-read : (f : List ℕ) → Bytes f → (h : Header) → readingOf f ≡ Reading.Accepted h → h .start ≡ 0 → (out : List ℕ) → length f ≤ length out
-    → (writtenOf (recordsOf f) (h .counts) out ≡ Written.Length (length f)) × (outAfter (recordsOf f) (h .counts) out ≡ f ++ drop (length f) out)
-unfolding recordsOf readingOf writtenOf outAfter writingCheck
+write-read : (f : List ℕ) → Bytes f → (h : Trailer) → readingOf f ≡ Reading.Accepted h → h .start ≡ 0 → (out : List ℕ) → length f ≤ length out
+    → (writtenOf (recordsOf f) (h .counts) out ≡ Written.Length (length f)) × (outAfterWriting (recordsOf f) (h .counts) out ≡ f ++ drop (length f) out)
+unfolding recordsOf readingOf writtenOf outAfterWriting writingCheck
 write-read f bytes h q none out room =
     let passed = reading-passed f h q in
     let ok = sound f passed in
-    let own : headerOf f ≡ h = header-of passed q in
-    let s = recordBytes f (headerOf f) in
-    let c = headerOf f .counts in
+    let own : trailerOf f ≡ h = trailer-of passed q in
+    let s = recordBytes f (trailerOf f) in
+    let c = trailerOf f .counts in
     let l = bytes-length f ok in
-    let again = written-again f bytes ok (ap (λ (x : Header). x .start) own ∙ none) in
+    let again = written-again f bytes ok (ap (λ (x : Trailer). x .start) own ∙ none) in
     let n = sym (file-length s c) ∙ ap length again in
     let checked : recordsCheck s c ≡ Check.Passed = sym (same-check s c (fits-of f ok) (omega arith)) ∙ ap fileCheck again ∙ passed in
     let roomy : leb (length s + 16) (length out) ≡ true = le-leb (length s + 16) (length out) (omega arith) in
     rw (passed, sym own, checked, roomy, n, again) (refl, refl)
   where
-    header-of : fileCheck f ≡ Check.Passed → readingBy (headerOf f) (fileCheck f) ≡ Reading.Accepted h → headerOf f ≡ h
-    header-of p q = let r = sym (ap (readingBy (headerOf f)) p) ∙ q in cc
+    trailer-of : fileCheck f ≡ Check.Passed → readingBy (trailerOf f) (fileCheck f) ≡ Reading.Accepted h → trailerOf f ≡ h
+    trailer-of p q = let r = sym (ap (readingBy (trailerOf f)) p) ∙ q in cc
 
 pub round-trip : RoundTrip
 round-trip = record { read-written = read-written; write-read = write-read; same-refusals = λ s c whole fits. same-check s c fits whole }

@@ -35,13 +35,13 @@ Safe E o X = (e t : ℕ) → e < size E → number X e t ≤ seen E o e t
 candidate-inside : (E : Recording) (X : Vectors) (e s : ℕ) → List·Memᴰ s (candidates E X e) → s < size E
 unfolding candidates signalsOn
 candidate-inside E X e s m =
-    picked-mem (λ a. isSignal (objectOf E e) (event E a)) s (size E) (filter-mem _ (signalsOn E (objectOf E e)) m .0) .0
+    picked-mem (λ a. isSignal (objectOf E e) (event E a)) s (size E) (filter-mem _ (signalsOn (E .events) (objectOf E e)) m .0) .0
 
 -- ---- lengths: one vector for each event
 
 pub start-length : (E : Recording) → length (start E) ≡ size E
 unfolding start
-start-length E = listOf-length (λ e. listOf (λ t. cond (eqb t (taskOf E e)) (position E e) 0) (tasks E)) [] (size E)
+start-length E = listOf-length (λ e. listOf (λ t. cond (eqb t (taskOf E e)) (position (E .events) e) 0) (tasks E)) [] (size E)
 
 pub passTo-length : (E : Recording) (X : Vectors) (n : ℕ) → length (passTo E X n) ≡ length X
 unfolding passTo
@@ -55,7 +55,7 @@ module _ (E : Recording) (o : List ℕ) (adm : Admissible E o) where
       (λ c l p. let q = second (ofTask t (event E c)) (leb (place o c) (place o a)) p in both (first (ofTask t (event E c)) _ p) (omega tests))
 
   -- the order keeps each event's position
-  seen-own : (e : ℕ) → e < size E → seen E o e (taskOf E e) ≡ position E e
+  seen-own : (e : ℕ) → e < size E → seen E o e (taskOf E e) ≡ position (E .events) e
   unfolding position
   seen-own e l =
       tally-ext (λ a. ofTask (taskOf E e) (event E a) && leb (place o a) (place o e)) (λ a. ofTask (taskOf E e) (event E a) && ltb a (suc e)) (size E)
@@ -86,11 +86,11 @@ module _ (E : Recording) (o : List ℕ) (adm : Admissible E o) where
       own c = ofTask (taskOf E a) (event E c)
 
   -- what safe vectors order, the order keeps
-  pub ordered-precedes : (X : Vectors) → Safe E o X → (a e : ℕ) → a < size E → e < size E → ordered E X a e ≡ true → Precedes o a e
+  pub ordered-precedes : (X : Vectors) → Safe E o X → (a e : ℕ) → a < size E → e < size E → ordered (E .events) X a e ≡ true → Precedes o a e
   unfolding ordered
   ordered-precedes X safe a e k l t =
       let apart = of-not (eqb a e) (first (not (eqb a e)) _ t) in
-      let reached = leb-true (position E a) (number X e (taskOf E a)) (second (not (eqb a e)) _ t) in
+      let reached = leb-true (position (E .events) a) (number X e (taskOf E a)) (second (not (eqb a e)) _ t) in
       let low = safe e (taskOf E a) l in
       turned E o adm a e k l (eqb-false a e apart) (λ p. let own = seen-own a k in let less = seen-less a e k p in omega arith)
 
@@ -98,8 +98,8 @@ module _ (E : Recording) (o : List ℕ) (adm : Admissible E o) where
   unfolding start
   start-safe e t l =
       subst (λ (r : List ℕ). getD r t 0 ≤ seen E o e t)
-      (sym (listOf-at (λ e. listOf (λ t. cond (eqb t (taskOf E e)) (position E e) 0) (tasks E)) [] (size E) e l))
-      (row-with (λ v. v ≤ seen E o e t) (λ t. cond (eqb t (taskOf E e)) (position E e) 0) (tasks E) t zero-le
+      (sym (listOf-at (λ e. listOf (λ t. cond (eqb t (taskOf E e)) (position (E .events) e) 0) (tasks E)) [] (size E) e l))
+      (row-with (λ v. v ≤ seen E o e t) (λ t. cond (eqb t (taskOf E e)) (position (E .events) e) 0) (tasks E) t zero-le
       (λ m. cases (eqb t (taskOf E e))
       (λ q. rw q (le-of-eq (sym (seen-own e l) ∙ ap (seen E o e) (sym (eqb-true t (taskOf E e) q))))) (λ q. rw q zero-le)))
 
@@ -138,9 +138,9 @@ module _ (E : Recording) (o : List ℕ) (adm : Admissible E o) where
       go : (b : Bool) → eqb (kindOf E e) 2 ≡ b → kWhere E X e b ≤ tally (sooner-signal e) (size E)
       go false q = zero-le
       go true q =
-          let waits = count-picked own (λ w. ordered E X w e) (size E) in
-          let fewer = tally-le (λ w. own w && ordered E X w e) (λ w. own w && sooner o w e) (size E)
-          (λ a k u. both (first (own a) (ordered E X a e) u) (lt-ltb _ _ (ordered-precedes X safe a e k l (second (own a) (ordered E X a e) u)))) in
+          let waits = count-picked own (λ w. ordered (E .events) X w e) (size E) in
+          let fewer = tally-le (λ w. own w && ordered (E .events) X w e) (λ w. own w && sooner o w e) (size E)
+          (λ a k u. both (first (own a) (ordered (E .events) X a e) u) (lt-ltb _ _ (ordered-precedes X safe a e k l (second (own a) (ordered (E .events) X a e) u)))) in
           let more = wait-served E o adm e l q in omega arith
 
   -- and each of them is a candidate
@@ -148,20 +148,20 @@ module _ (E : Recording) (o : List ℕ) (adm : Admissible E o) where
   unfolding candidates signalsOn
   sooner-candidates X safe e l =
       le-trans
-      (tally-le (sooner-signal e) (λ s. signal s && (not (ordered E X e s) && sooner-signal e s)) (size E)
+      (tally-le (sooner-signal e) (λ s. signal s && (not (ordered (E .events) X e s) && sooner-signal e s)) (size E)
       (λ s k q. both (first (signal s) _ q) (both (possible s k q) q)))
       (le-of-eq
       (sym
-      (count-filter (sooner-signal e) (λ s. not (ordered E X e s)) (picked signal (size E))
-      ∙ count-picked signal (λ s. not (ordered E X e s) && sooner-signal e s) (size E))))
+      (count-filter (sooner-signal e) (λ s. not (ordered (E .events) X e s)) (picked signal (size E))
+      ∙ count-picked signal (λ s. not (ordered (E .events) X e s) && sooner-signal e s) (size E))))
     where
       signal : ℕ → Bool
       signal s = isSignal (objectOf E e) (event E s)
 
-      possible : (s : ℕ) → s < size E → sooner-signal e s ≡ true → not (ordered E X e s) ≡ true
+      possible : (s : ℕ) → s < size E → sooner-signal e s ≡ true → not (ordered (E .events) X e s) ≡ true
       possible s k q =
           to-not
-          (fails (ordered E X e s)
+          (fails (ordered (E .events) X e s)
           (λ u.
           let a = ordered-precedes X safe e s l k u in
           let b = ltb-true (place o s) (place o e) (second (signal s) _ q) in omega arith))
@@ -195,8 +195,8 @@ module _ (E : Recording) (o : List ℕ) (adm : Admissible E o) where
   pub step-one : (X : Vectors) (e : ℕ) → e < size E → length X ≡ size E → Safe E o X → Safe E o (stepOne E X e)
   unfolding stepOne
   step-one X e l n safe =
-      set-safe X e (gathered E X (sources E e) e) n safe
-      (gathered-safe X (sources E e) e l safe (λ s h. source-precedes E o adm e s l (source-of E e s h)))
+      set-safe X e (gathered E X (sources (E .events) e) e) n safe
+      (gathered-safe X (sources (E .events) e) e l safe (λ s h. source-precedes E o adm e s l (source-of E e s h)))
 
   raised-safe : (X : Vectors) (e : ℕ) → e < size E → length X ≡ size E → Safe E o X → (t : ℕ) → getD (raised E X e) t 0 ≤ seen E o e t
   unfolding raised

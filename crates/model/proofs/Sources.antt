@@ -12,7 +12,7 @@ use lib.Dec.{ltb, eqb}
 use Rattle.model.specs.Numbers.{lastOf, found}
 use Rattle.model.specs.Recording.{event, ofTask, isFork, Recording, size, taskOf, kindOf, objectOf}
 use Rattle.model.specs.Orders.{Precedes, Admissible}
-use Rattle.model.specs.Passes.{previous, forkOf, lastEvent, orFork, joinSources, sources}
+use Rattle.model.specs.Passes.{previous, forkOf, lastEvent, firstFound, beforeOrFork, joinSources, sources}
 use Rattle.model.proofs.Tests.{cases, clash, both, last-or-lower, eqb-true, eq-eqb, ltb-true, ltb-false}
 use Rattle.model.proofs.Rules.{fork-first, join-last, join-forked, one-fork}
 
@@ -73,28 +73,28 @@ in-found {s} {m} q = subst (λ (m : Found). List·Memᴰ s (found m)) (sym q) (L
 
 -- what a join adds
 
-pub source-of : (E : Recording) (e s : ℕ) → List·Memᴰ s (sources E e) → Source E e s
+pub source-of : (E : Recording) (e s : ℕ) → List·Memᴰ s (sources (E .events) e) → Source E e s
 unfolding sources
-source-of E e s h = either (List·Memᴰ·append-cases (orFork (previous E e) (forkOf E (taskOf E e))) h)
+source-of E e s h = either (List·Memᴰ·append-cases (found (beforeOrFork (E .events) e)) h)
   where
-    own : (m : Found) → previous E e ≡ m → List·Memᴰ s (orFork m (forkOf E (taskOf E e))) → Source E e s
-    own Found.Nothing q k = let r = last-some (λ a. isFork (taskOf E e) (event E a)) (size E) s (of-found (forkOf E (taskOf E e)) k) in forked (r .inside) (r .passes)
+    own : (m : Found) → previous (E .events) e ≡ m → List·Memᴰ s (found (firstFound m (forkOf (E .events) (taskOf E e)))) → Source E e s
+    own Found.Nothing q k = let r = last-some (λ a. isFork (taskOf E e) (event E a)) (size E) s (of-found (forkOf (E .events) (taskOf E e)) k) in forked (r .inside) (r .passes)
     own (Found.At x) q k =
         let r = last-some (λ a. ofTask (taskOf E e) (event E a)) e s (q ∙ of-found (Found.At x) k) in
         before (r .inside) (eqb-true (taskOf E s) (taskOf E e) (r .passes))
 
-    joined : (b : Bool) → eqb (kindOf E e) 4 ≡ b → List·Memᴰ s (joinSources E e b) → Source E e s
+    joined : (b : Bool) → eqb (kindOf E e) 4 ≡ b → List·Memᴰ s (joinSources (E .events) e b) → Source E e s
     joined false q k = absurd (List·Memᴰ·not-nil k)
-    joined true q k = which (List·Memᴰ·append-cases (found (forkOf E (objectOf E e))) k)
+    joined true q k = which (List·Memᴰ·append-cases (found (forkOf (E .events) (objectOf E e))) k)
       where
-        which : List·Memᴰ s (found (forkOf E (objectOf E e))) ⊎ List·Memᴰ s (found (lastEvent E (objectOf E e))) → Source E e s
-        which (inl k) = let r = last-some (λ a. isFork (objectOf E e) (event E a)) (size E) s (of-found (forkOf E (objectOf E e)) k) in join-fork q (r .inside) (r .passes)
+        which : List·Memᴰ s (found (forkOf (E .events) (objectOf E e))) ⊎ List·Memᴰ s (found (lastEvent (E .events) (objectOf E e))) → Source E e s
+        which (inl k) = let r = last-some (λ a. isFork (objectOf E e) (event E a)) (size E) s (of-found (forkOf (E .events) (objectOf E e)) k) in join-fork q (r .inside) (r .passes)
         which (inr k) =
-            let r = last-some (λ a. ofTask (objectOf E e) (event E a)) (size E) s (of-found (lastEvent E (objectOf E e)) k) in
+            let r = last-some (λ a. ofTask (objectOf E e) (event E a)) (size E) s (of-found (lastEvent (E .events) (objectOf E e)) k) in
             join-end q (r .inside) (eqb-true (taskOf E s) (objectOf E e) (r .passes))
 
-    either : List·Memᴰ s (orFork (previous E e) (forkOf E (taskOf E e))) ⊎ List·Memᴰ s (joinSources E e (eqb (kindOf E e) 4)) → Source E e s
-    either (inl k) = own (previous E e) refl k
+    either : List·Memᴰ s (found (beforeOrFork (E .events) e)) ⊎ List·Memᴰ s (joinSources (E .events) e (eqb (kindOf E e) 4)) → Source E e s
+    either (inl k) = own (previous (E .events) e) refl k
     either (inr k) = joined (eqb (kindOf E e) 4) refl k
 
 -- a source precedes its event in every admissible order
@@ -108,26 +108,26 @@ source-precedes E o adm e s l (join-end j k t) = (k, join-last E o adm e s l k (
 
 -- ---- what the sources hold
 
-pub has-previous : (E : Recording) (e s : ℕ) → previous E e ≡ Found.At s → List·Memᴰ s (sources E e)
+pub has-previous : (E : Recording) (e s : ℕ) → previous (E .events) e ≡ Found.At s → List·Memᴰ s (sources (E .events) e)
 unfolding sources
-has-previous E e s q = Memᴰ·append-left _ (subst (λ (m : Found). List·Memᴰ s (orFork m (forkOf E (taskOf E e)))) (sym q) (List·Memᴰ·head refl))
+has-previous E e s q = Memᴰ·append-left _ (subst (λ (m : Found). List·Memᴰ s (found (firstFound m (forkOf (E .events) (taskOf E e))))) (sym q) (List·Memᴰ·head refl))
 
-pub has-fork : (E : Recording) (e s : ℕ) → previous E e ≡ Found.Nothing → forkOf E (taskOf E e) ≡ Found.At s → List·Memᴰ s (sources E e)
+pub has-fork : (E : Recording) (e s : ℕ) → previous (E .events) e ≡ Found.Nothing → forkOf (E .events) (taskOf E e) ≡ Found.At s → List·Memᴰ s (sources (E .events) e)
 unfolding sources
-has-fork E e s q r = Memᴰ·append-left _ (subst (λ (m : Found). List·Memᴰ s (orFork m (forkOf E (taskOf E e)))) (sym q) (in-found r))
+has-fork E e s q r = Memᴰ·append-left _ (subst (λ (m : Found). List·Memᴰ s (found (firstFound m (forkOf (E .events) (taskOf E e))))) (sym q) (in-found r))
 
-has-end : (E : Recording) (e s : ℕ) → eqb (kindOf E e) 4 ≡ true → List·Memᴰ s (found (forkOf E (objectOf E e)) ++ found (lastEvent E (objectOf E e))) → List·Memᴰ s (sources E e)
+has-end : (E : Recording) (e s : ℕ) → eqb (kindOf E e) 4 ≡ true → List·Memᴰ s (found (forkOf (E .events) (objectOf E e)) ++ found (lastEvent (E .events) (objectOf E e))) → List·Memᴰ s (sources (E .events) e)
 unfolding sources
-has-end E e s q h = Memᴰ·append-right (orFork (previous E e) (forkOf E (taskOf E e))) (subst (λ (b : Bool). List·Memᴰ s (joinSources E e b)) (sym q) h)
+has-end E e s q h = Memᴰ·append-right (found (beforeOrFork (E .events) e)) (subst (λ (b : Bool). List·Memᴰ s (joinSources (E .events) e b)) (sym q) h)
 
-pub has-join-fork : (E : Recording) (e s : ℕ) → eqb (kindOf E e) 4 ≡ true → forkOf E (objectOf E e) ≡ Found.At s → List·Memᴰ s (sources E e)
-has-join-fork E e s q r = has-end E e s q (Memᴰ·append-left (found (lastEvent E (objectOf E e))) (in-found r))
+pub has-join-fork : (E : Recording) (e s : ℕ) → eqb (kindOf E e) 4 ≡ true → forkOf (E .events) (objectOf E e) ≡ Found.At s → List·Memᴰ s (sources (E .events) e)
+has-join-fork E e s q r = has-end E e s q (Memᴰ·append-left (found (lastEvent (E .events) (objectOf E e))) (in-found r))
 
-pub has-join-end : (E : Recording) (e s : ℕ) → eqb (kindOf E e) 4 ≡ true → lastEvent E (objectOf E e) ≡ Found.At s → List·Memᴰ s (sources E e)
-has-join-end E e s q r = has-end E e s q (Memᴰ·append-right (found (forkOf E (objectOf E e))) (in-found r))
+pub has-join-end : (E : Recording) (e s : ℕ) → eqb (kindOf E e) 4 ≡ true → lastEvent (E .events) (objectOf E e) ≡ Found.At s → List·Memᴰ s (sources (E .events) e)
+has-join-end E e s q r = has-end E e s q (Memᴰ·append-right (found (forkOf (E .events) (objectOf E e))) (in-found r))
 
 -- the fork of a task is the one that is found
-pub fork-found : (E : Recording) (o : List ℕ) → Admissible E o → (t f : ℕ) → f < size E → isFork t (event E f) ≡ true → forkOf E t ≡ Found.At f
+pub fork-found : (E : Recording) (o : List ℕ) → Admissible E o → (t f : ℕ) → f < size E → isFork t (event E f) ≡ true → forkOf (E .events) t ≡ Found.At f
 fork-found E o adm t f l h =
     let (x, q, r, k) = last-found (λ a. isFork t (event E a)) (size E) f l h in
     q ∙ ap (λ (x : ℕ). Found.At x) (one-fork E o adm t x f (r .inside) l (r .passes) h)

@@ -10,13 +10,13 @@ use Rattle.model.specs.declared.Reading.{Reading}
 use Rattle.model.specs.declared.Analysis.{Analysis}
 use Rattle.model.specs.Numbers.{sum, count, filter, listFrom, each, picked, lastOf, nth, largest, insert, sort, kthLeast}
 use Rattle.model.specs.Recording.{waitKept, lifeKept, classOf, knownKind, named, recordCheck, firstFault}
-use Rattle.model.specs.File.{u16At, u32At, eventAt, eventsOf, headerOf, editionOf, recordBytes, recordingOf}
+use Rattle.model.specs.File.{u16At, u32At, eventAt, eventsOf, trailerOf, editionOf, recordBytes, recordingOf}
 use Rattle.model.specs.Reading.{extentMet, inRange, fileCheck, readingOf}
 use Rattle.model.specs.Vectors.{position, flat, start, ordered, unordered}
 use Rattle.model.specs.Passes.{sources, gathered, stepOne, signalsOn, waitsOn, needed, candidates, served, raised, passTo, pass, further, run}
 use Rattle.model.specs.Recorded.{matched, recordedTo, recorded}
 use Rattle.model.specs.Pairs.{conflict, racePair, mark, entriesOf, cellEntries, entries, listed, entryNumbers}
-use Rattle.model.specs.Analysing.{workCheck, analysisCheck, analysisOf, listAfter}
+use Rattle.model.specs.Analysing.{workCheck, analysisCheck, analysisOf, listAfterAnalysing}
 use Rattle.model.specs.Writing.{trailerBytes, fileOf}
 
 -- ---- recordings as record bytes
@@ -86,14 +86,14 @@ room l = replicate (length l) 0
 
 -- analysing f with budget b lists just these entries
 abbrev Lists : List ℕ → ℕ → List ℕ → Type 0
-Lists f b l = listAfter f b work (room l) ≡ l
+Lists f b l = listAfterAnalysing f b work (room l) ≡ l
 
 -- and makes so many passes, settled or not
 abbrev Analyses : List ℕ → ℕ → ℕ → Bool → List ℕ → Type 0
 Analyses f b n s l = (analysisOf f b work (room l) ≡ Analysis.Done n s (length l / 3)) × Lists f b l
 
 abbrev Accepts : List ℕ → Type 0
-Accepts f = readingOf f ≡ Reading.Accepted (headerOf f)
+Accepts f = readingOf f ≡ Reading.Accepted (trailerOf f)
 
 abbrev Refuses : List ℕ → Refusal → Type 0
 Refuses f r = readingOf f ≡ Reading.Refused r
@@ -114,7 +114,7 @@ pub record Starred : Type 0 where
   pub j : Refuses J (Refusal.Empty 0)
 
 pub starred : Starred
-unfolding sum count filter listFrom each picked lastOf nth largest insert sort kthLeast waitKept lifeKept classOf knownKind named recordCheck firstFault u16At u32At eventAt eventsOf headerOf editionOf recordBytes recordingOf extentMet inRange fileCheck readingOf position flat start ordered unordered sources gathered stepOne signalsOn waitsOn needed candidates served raised passTo pass further run matched recordedTo recorded conflict racePair mark entriesOf cellEntries entries listed entryNumbers workCheck analysisCheck analysisOf listAfter trailerBytes fileOf
+unfolding sum count filter listFrom each picked lastOf nth largest insert sort kthLeast waitKept lifeKept classOf knownKind named recordCheck firstFault u16At u32At eventAt eventsOf trailerOf editionOf recordBytes recordingOf extentMet inRange fileCheck readingOf position flat start ordered unordered sources gathered stepOne signalsOn waitsOn needed candidates served raised passTo pass further run matched recordedTo recorded conflict racePair mark entriesOf cellEntries entries listed entryNumbers workCheck analysisCheck analysisOf listAfterAnalysing trailerBytes fileOf
 starred = record {
   a-0 = (refl, refl);
   a-1 = (refl, refl);
@@ -157,7 +157,7 @@ pub record Edges : Type 0 where
   pub cell-1 : Refuses (file 1 1 1 (of 5 0 1)) (Refusal.Name 0)
 
 pub edges : Edges
-unfolding sum count listFrom waitKept lifeKept classOf knownKind named recordCheck firstFault u16At u32At eventAt eventsOf headerOf editionOf recordBytes recordingOf extentMet inRange fileCheck readingOf trailerBytes fileOf
+unfolding sum count listFrom waitKept lifeKept classOf knownKind named recordCheck firstFault u16At u32At eventAt eventsOf trailerOf editionOf recordBytes recordingOf extentMet inRange fileCheck readingOf trailerBytes fileOf
 edges = record {
   bytes-15 = refl;
   bytes-16 = refl;

@@ -23,11 +23,11 @@ workFits E work = leb (2 * (size E * tasks E)) (length work)
 
 -- the work memory filled: the safe vectors, the recorded vectors, and beyond them what was there
 unfoldable pub filled : Recording → ℕ → List ℕ → List ℕ
-filled E b work = flat (safeVectors E b) ++ flat (recorded E) ++ drop (2 * (size E * tasks E)) work
+filled E budget work = flat (safeVectors E budget) ++ flat (recorded E) ++ drop (2 * (size E * tasks E)) work
 
 -- the list has 3 × pairs numbers
 abbrev pub listFits : Recording → ℕ → List ℕ → Bool
-listFits E b list = leb (3 * length (listed E b)) (length list)
+listFits E budget list = leb (3 * length (listed E budget)) (length list)
 
 -- the file's refusal, then 9
 unfoldable pub workCheck : List ℕ → List ℕ → Check
@@ -35,28 +35,28 @@ workCheck f work = andThen (fileCheck f) λ _. unless (workFits (recordingOf f) 
 
 -- then 10, with the pairs needed
 unfoldable pub analysisCheck : List ℕ → ℕ → List ℕ → List ℕ → Check
-analysisCheck f b work list =
+analysisCheck f budget work list =
     andThen (workCheck f work) λ _.
-    let E = recordingOf f in unless (listFits E b list) (Refusal.List (length (listed E b))) λ _. Check.Passed
+    let E = recordingOf f in unless (listFits E budget list) (Refusal.List (length (listed E budget))) λ _. Check.Passed
 
 -- passes made, settled, and pairs
 abbrev pub done : Recording → ℕ → Analysis
-done E b = Analysis.Done (passesMade E b) (isSettled E b) (length (listed E b))
+done E budget = Analysis.Done (passesMade E budget) (isSettled E budget) (length (listed E budget))
 
 abbrev pub analysisBy : Recording → ℕ → Check → Analysis
-analysisBy E b Check.Passed = done E b
-analysisBy E b (Check.Failed r) = Analysis.Refused r
+analysisBy E budget Check.Passed = done E budget
+analysisBy E budget (Check.Failed r) = Analysis.Refused r
 
 -- what analysing answers
 unfoldable pub analysisOf : List ℕ → ℕ → List ℕ → List ℕ → Analysis
-analysisOf f b work list = analysisBy (recordingOf f) b (analysisCheck f b work list)
+analysisOf f budget work list = analysisBy (recordingOf f) budget (analysisCheck f budget work list)
 
 -- the work memory after analysing: filled, also after 10
-unfoldable pub workAfter : List ℕ → ℕ → List ℕ → List ℕ
-workAfter f b work = after (workCheck f work) (λ _. filled (recordingOf f) b work) work
+unfoldable pub workAfterAnalysing : List ℕ → ℕ → List ℕ → List ℕ
+workAfterAnalysing f budget work = after (workCheck f work) (λ _. filled (recordingOf f) budget work) work
 
 -- the list after analysing: the entries, and beyond the last one what was there
-unfoldable pub listAfter : List ℕ → ℕ → List ℕ → List ℕ → List ℕ
-listAfter f b work list =
-    after (analysisCheck f b work list)
-    (λ _. let l = listed (recordingOf f) b in entryNumbers l ++ drop (3 * length l) list) list
+unfoldable pub listAfterAnalysing : List ℕ → ℕ → List ℕ → List ℕ → List ℕ
+listAfterAnalysing f budget work list =
+    after (analysisCheck f budget work list)
+    (λ _. let l = listed (recordingOf f) budget in entryNumbers l ++ drop (3 * length l) list) list

@@ -6,7 +6,7 @@ use mathlib.Core.List.{List}
 use lib.ListN.{length, getD, take, drop}
 use Rattle.model.specs.declared.Event.{Event}
 use Rattle.model.specs.declared.Counts.{Counts}
-use Rattle.model.specs.declared.Header.{Header}
+use Rattle.model.specs.declared.Trailer.{Trailer}
 use Rattle.model.specs.Numbers.{listOf}
 use Rattle.model.specs.Recording.{Recording}
 
@@ -27,23 +27,23 @@ unfoldable pub eventsOf : List ℕ → List Event
 eventsOf s = listOf (eventAt s) (length s / 4)
 
 -- where the trailer starts
-abbrev pub trailer : List ℕ → ℕ
-trailer f = length f - 16
+abbrev pub trailerAt : List ℕ → ℕ
+trailerAt f = length f - 16
 
 -- the trailer: start (4), N (4), tasks (2), semaphores (2), cells (2), edition (2)
-unfoldable pub headerOf : List ℕ → Header
-headerOf f =
+unfoldable pub trailerOf : List ℕ → Trailer
+trailerOf f =
     record {
-      start = u32At f (trailer f);
-      records = u32At f (trailer f + 4);
-      counts = record { tasks = u16At f (trailer f + 8); semaphores = u16At f (trailer f + 10); cells = u16At f (trailer f + 12) };
+      start = u32At f (trailerAt f);
+      records = u32At f (trailerAt f + 4);
+      counts = record { tasks = u16At f (trailerAt f + 8); semaphores = u16At f (trailerAt f + 10); cells = u16At f (trailerAt f + 12) };
     }
 
 unfoldable pub editionOf : List ℕ → ℕ
-editionOf f = u16At f (trailer f + 14)
+editionOf f = u16At f (trailerAt f + 14)
 
--- the records' part of a file with this header
-unfoldable pub recordBytes : List ℕ → Header → List ℕ
+-- the records' part of a file with this trailer
+unfoldable pub recordBytes : List ℕ → Trailer → List ℕ
 recordBytes f h = take (4 * h .records) (drop (h .start) f)
 
 -- the recording of these record bytes and counts
@@ -52,4 +52,4 @@ recordingBy s c = record { counts = c; events = eventsOf s }
 
 -- the recording that a file holds
 unfoldable pub recordingOf : List ℕ → Recording
-recordingOf f = recordingBy (recordBytes f (headerOf f)) (headerOf f .counts)
+recordingOf f = recordingBy (recordBytes f (trailerOf f)) (trailerOf f .counts)

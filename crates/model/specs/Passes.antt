@@ -4,38 +4,43 @@ use Prim.Native.Nat.{ℕ, zero, suc, max}
 use mathlib.Core.Bool.{Bool, true, false, not, _&&_}
 use mathlib.Core.List.{List, [], _∷_, _++_, map}
 use lib.Dec.{eqb}
-use lib.ListN.{set}
+use lib.ListN.{length, set}
+use Rattle.model.specs.declared.Event.{Event}
 use Rattle.model.specs.declared.Found.{Found}
 use Rattle.model.specs.Numbers.{count, filter, listOf, picked, lastOf, found, largest, kthLeast}
-use Rattle.model.specs.Recording.{Recording, size, tasks, event, taskOf, kindOf, objectOf, ofTask, isSignal, isWait, isFork}
+use Rattle.model.specs.Recording.{Recording, size, tasks, eventIn, kindOf, objectOf, wait, join, ofTask, isSignal, isWait, isFork}
 use Rattle.model.specs.Vectors.{Vectors, number, start, ordered}
 
 -- ---- step 1: the events whose vectors e takes the largest of
 
 -- the event before e in its task
-abbrev pub previous : Recording → ℕ → Found
-previous E e = lastOf (λ a. ofTask (taskOf E e) (event E a)) e
+abbrev pub previous : List Event → ℕ → Found
+previous l e = lastOf (λ a. ofTask (eventIn l e .task) (eventIn l a)) e
 
 -- the fork of task t
-abbrev pub forkOf : Recording → ℕ → Found
-forkOf E t = lastOf (λ a. isFork t (event E a)) (size E)
+abbrev pub forkOf : List Event → ℕ → Found
+forkOf l t = lastOf (λ a. isFork t (eventIn l a)) (length l)
 
 -- the last event of task t
-abbrev pub lastEvent : Recording → ℕ → Found
-lastEvent E t = lastOf (λ a. ofTask t (event E a)) (size E)
+abbrev pub lastEvent : List Event → ℕ → Found
+lastEvent l t = lastOf (λ a. ofTask t (eventIn l a)) (length l)
 
--- the event before, or for the first event of its task the fork
-abbrev pub orFork : Found → Found → List ℕ
-orFork (Found.At a) f = a ∷ []
-orFork Found.Nothing f = found f
+-- the first that was found
+abbrev pub firstFound : Found → Found → Found
+firstFound (Found.At a) f = Found.At a
+firstFound Found.Nothing f = f
+
+-- the event before e in its task, or for the first event of a task the fork
+abbrev pub beforeOrFork : List Event → ℕ → Found
+beforeOrFork l e = firstFound (previous l e) (forkOf l (eventIn l e .task))
 
 -- for a join of t the fork of t and the last event of t
-abbrev pub joinSources : Recording → ℕ → Bool → List ℕ
-joinSources E e true = found (forkOf E (objectOf E e)) ++ found (lastEvent E (objectOf E e))
-joinSources E e false = []
+abbrev pub joinSources : List Event → ℕ → Bool → List ℕ
+joinSources l e true = found (forkOf l (eventIn l e .object)) ++ found (lastEvent l (eventIn l e .object))
+joinSources l e false = []
 
-unfoldable pub sources : Recording → ℕ → List ℕ
-sources E e = orFork (previous E e) (forkOf E (taskOf E e)) ++ joinSources E e (eqb (kindOf E e) 4)
+unfoldable pub sources : List Event → ℕ → List ℕ
+sources l e = found (beforeOrFork l e) ++ joinSources l e (eqb (eventIn l e .kind) join)
 
 -- the largest, number by number, of e's own vector and of those of these events
 unfoldable pub gathered : Recording → Vectors → List ℕ → ℕ → List ℕ
@@ -43,20 +48,20 @@ gathered E X from e = listOf (λ t. largest (λ s. number X s t) (e ∷ from)) (
 
 -- the vectors after step 1 for e
 unfoldable pub stepOne : Recording → Vectors → ℕ → Vectors
-stepOne E X e = set X e (gathered E X (sources E e) e)
+stepOne E X e = set X e (gathered E X (sources (E .events) e) e)
 
 -- ---- step 2: a wait
 
 -- the signals on semaphore s, and the waits on it, in file order
-unfoldable pub signalsOn : Recording → ℕ → List ℕ
-signalsOn E s = picked (λ a. isSignal s (event E a)) (size E)
+unfoldable pub signalsOn : List Event → ℕ → List ℕ
+signalsOn l s = picked (λ a. isSignal s (eventIn l a)) (length l)
 
-unfoldable pub waitsOn : Recording → ℕ → List ℕ
-waitsOn E s = picked (λ a. isWait s (event E a)) (size E)
+unfoldable pub waitsOn : List Event → ℕ → List ℕ
+waitsOn l s = picked (λ a. isWait s (eventIn l a)) (length l)
 
 -- k of a wait e on s: 1 plus the waits on s ordered before e
 abbrev pub kOf : Recording → Vectors → ℕ → ℕ → ℕ
-kOf E X e s = suc (count (λ w. ordered E X w e) (waitsOn E s))
+kOf E X e s = suc (count (λ w. ordered (E .events) X w e) (waitsOn (E .events) s))
 
 -- k of an event; 0, which raises nothing, where it is no wait
 abbrev pub kWhere : Recording → Vectors → ℕ → Bool → ℕ
@@ -64,11 +69,11 @@ kWhere E X e true = kOf E X e (objectOf E e)
 kWhere E X e false = 0
 
 unfoldable pub needed : Recording → Vectors → ℕ → ℕ
-needed E X e = kWhere E X e (eqb (kindOf E e) 2)
+needed E X e = kWhere E X e (eqb (kindOf E e) wait)
 
 -- the candidates: the signals on its semaphore that e is not ordered before
 unfoldable pub candidates : Recording → Vectors → ℕ → List ℕ
-candidates E X e = filter (λ s. not (ordered E X e s)) (signalsOn E (objectOf E e))
+candidates E X e = filter (λ s. not (ordered (E .events) X e s)) (signalsOn (E .events) (objectOf E e))
 
 -- the k-th least among the candidates' numbers for task t; 0 where there are fewer than k
 unfoldable pub served : Recording → Vectors → ℕ → ℕ → ℕ
@@ -120,14 +125,14 @@ further E r =
 -- the run with a budget
 unfoldable pub run : Recording → ℕ → Run
 run E zero = record { passes = 0; settled = false; vectors = start E }
-run E (suc b) = further E (run E b)
+run E (suc budget) = further E (run E budget)
 
--- of a run with budget b: the safe vectors, passes made, and whether it is settled
+-- of a run with a budget: the safe vectors, passes made, and whether it is settled
 abbrev pub safeVectors : Recording → ℕ → Vectors
-safeVectors E b = run E b .vectors
+safeVectors E budget = run E budget .vectors
 
 abbrev pub passesMade : Recording → ℕ → ℕ
-passesMade E b = run E b .passes
+passesMade E budget = run E budget .passes
 
 abbrev pub isSettled : Recording → ℕ → Bool
-isSettled E b = run E b .settled
+isSettled E budget = run E budget .settled

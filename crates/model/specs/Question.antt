@@ -12,7 +12,7 @@ use Rattle.model.specs.Refusals.{unless, andThen, after}
 use Rattle.model.specs.Recording.{Recording, size}
 use Rattle.model.specs.File.{recordingOf}
 use Rattle.model.specs.Reading.{fileCheck}
-use Rattle.model.specs.Vectors.{ordered, unordered}
+use Rattle.model.specs.Vectors.{Vectors, ordered, unordered}
 use Rattle.model.specs.Passes.{safeVectors}
 use Rattle.model.specs.Recorded.{recorded}
 use Rattle.model.specs.Analysing.{workFits, filled}
@@ -24,33 +24,36 @@ relationNumber Relation.Second = 2
 relationNumber Relation.Open = 3
 relationNumber Relation.Sure = 4
 
--- read like the list, but for any two events a and e, with a budget b
+-- how a and b stand to each other by the safe vectors X and the recorded vectors R: read like the list, but for any two events
+abbrev pub relationBy : Recording → Vectors → Vectors → ℕ → ℕ → Relation
+relationBy E X R a b =
+    cond (ordered (E .events) X a b) Relation.First
+    (cond (ordered (E .events) X b a) Relation.Second (cond (unordered (E .events) R a b) Relation.Sure Relation.Open))
+
+-- the same with a budget
 unfoldable pub relationOf : Recording → ℕ → ℕ → ℕ → Relation
-relationOf E b a e =
-    let X = safeVectors E b in
-    cond (ordered E X a e) Relation.First
-    (cond (ordered E X e a) Relation.Second (cond (unordered E (recorded E) a e) Relation.Sure Relation.Open))
+relationOf E a b budget = relationBy E (safeVectors E budget) (recorded E) a b
 
 -- two different events of the file
 abbrev pub twoEvents : Recording → ℕ → ℕ → Bool
-twoEvents E a e = ltb a (size E) && ltb e (size E) && not (eqb a e)
+twoEvents E a b = ltb a (size E) && ltb b (size E) && not (eqb a b)
 
 -- the file's refusal, then 11, then 9
 unfoldable pub questionCheck : List ℕ → ℕ → ℕ → List ℕ → Check
-questionCheck f a e work =
+questionCheck f a b work =
     andThen (fileCheck f) λ _.
-    unless (twoEvents (recordingOf f) a e) Refusal.Event λ _.
+    unless (twoEvents (recordingOf f) a b) Refusal.Event λ _.
     unless (workFits (recordingOf f) work) Refusal.Work λ _.
     Check.Passed
 
 abbrev pub answerBy : Recording → ℕ → ℕ → ℕ → Check → Answer
-answerBy E b a e Check.Passed = Answer.Related (relationOf E b a e)
-answerBy E b a e (Check.Failed r) = Answer.Refused r
+answerBy E a b budget Check.Passed = Answer.Related (relationOf E a b budget)
+answerBy E a b budget (Check.Failed r) = Answer.Refused r
 
 -- what the question answers
 unfoldable pub answerOf : List ℕ → ℕ → ℕ → ℕ → List ℕ → Answer
-answerOf f a e b work = answerBy (recordingOf f) b a e (questionCheck f a e work)
+answerOf f a b budget work = answerBy (recordingOf f) a b budget (questionCheck f a b work)
 
 -- the work memory after the question: filled as after analysing
-unfoldable pub askedWork : List ℕ → ℕ → ℕ → ℕ → List ℕ → List ℕ
-askedWork f a e b work = after (questionCheck f a e work) (λ _. filled (recordingOf f) b work) work
+unfoldable pub workAfterAsking : List ℕ → ℕ → ℕ → ℕ → List ℕ → List ℕ
+workAfterAsking f a b budget work = after (questionCheck f a b work) (λ _. filled (recordingOf f) budget work) work

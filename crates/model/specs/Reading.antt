@@ -6,21 +6,35 @@ use mathlib.Core.List.{List, []}
 use lib.Dec.{leb, eqb}
 use lib.ListN.{length, take}
 use Rattle.model.specs.declared.Counts.{Counts}
-use Rattle.model.specs.declared.Header.{Header}
+use Rattle.model.specs.declared.Trailer.{Trailer}
 use Rattle.model.specs.declared.Refusal.{Refusal}
 use Rattle.model.specs.declared.Check.{Check}
 use Rattle.model.specs.declared.Reading.{Reading}
 use Rattle.model.specs.Refusals.{unless, after}
 use Rattle.model.specs.Recording.{size, firstFault}
-use Rattle.model.specs.File.{trailer, headerOf, editionOf, recordBytes, recordingOf}
+use Rattle.model.specs.File.{trailerAt, trailerOf, editionOf, recordBytes, recordingOf}
 
 -- start + 4 × N = length - 16, as whole numbers
 unfoldable pub extentMet : List ℕ → Bool
-extentMet f = eqb (headerOf f .start + 4 * headerOf f .records) (trailer f)
+extentMet f = eqb (trailerOf f .start + 4 * trailerOf f .records) (trailerAt f)
+
+-- the most tasks, semaphores, cells and events that a recording has
+abbrev pub mostTasks : ℕ
+mostTasks = 16
+
+abbrev pub mostSemaphores : ℕ
+mostSemaphores = 64
+
+abbrev pub mostCells : ℕ
+mostCells = 1024
+
+abbrev pub mostEvents : ℕ
+mostEvents = 1024
 
 -- tasks 1 to 16, semaphores 0 to 64, cells 0 to 1,024, and N, the number of records, 0 to 1,024
 unfoldable pub inRange : Counts → ℕ → Bool
-inRange c n = leb 1 (c .tasks) && leb (c .tasks) 16 && leb (c .semaphores) 64 && leb (c .cells) 1024 && leb n 1024
+inRange c n =
+    leb 1 (c .tasks) && leb (c .tasks) mostTasks && leb (c .semaphores) mostSemaphores && leb (c .cells) mostCells && leb n mostEvents
 
 -- refusals 1 to 4, then the first faulty record by 5 to 8
 unfoldable pub fileCheck : List ℕ → Check
@@ -28,21 +42,21 @@ fileCheck f =
     unless (leb 16 (length f)) Refusal.Short λ _.
     unless (eqb (editionOf f) 1) Refusal.Edition λ _.
     unless (extentMet f) Refusal.Extent λ _.
-    unless (inRange (headerOf f .counts) (headerOf f .records)) Refusal.Count λ _.
+    unless (inRange (trailerOf f .counts) (trailerOf f .records)) Refusal.Count λ _.
     let E = recordingOf f in firstFault E (size E)
 
-abbrev pub readingBy : Header → Check → Reading
+abbrev pub readingBy : Trailer → Check → Reading
 readingBy h Check.Passed = Reading.Accepted h
 readingBy h (Check.Failed r) = Reading.Refused r
 
 -- what reading answers
 unfoldable pub readingOf : List ℕ → Reading
-readingOf f = readingBy (headerOf f) (fileCheck f)
+readingOf f = readingBy (trailerOf f) (fileCheck f)
 
 -- the preamble: the part of the file before the first record; of a refused file, the empty part
 unfoldable pub preambleOf : List ℕ → List ℕ
-preambleOf f = after (fileCheck f) (λ _. take (headerOf f .start) f) []
+preambleOf f = after (fileCheck f) (λ _. take (trailerOf f .start) f) []
 
 -- the records' part of the file; of a refused file, the empty part
 unfoldable pub recordsOf : List ℕ → List ℕ
-recordsOf f = after (fileCheck f) (λ _. recordBytes f (headerOf f)) []
+recordsOf f = after (fileCheck f) (λ _. recordBytes f (trailerOf f)) []

@@ -4,7 +4,7 @@ use Prim.Native.Nat.{ℕ, zero, suc}
 use mathlib.Core.Path.{_≡_}
 use mathlib.Core.Bool.{Bool, true, false, not, _&&_}
 use mathlib.Core.List.{List, [], _∷_}
-use lib.Dec.{ltb, eqb}
+use lib.Dec.{ltb, leb, eqb}
 use lib.ListN.{length, take, getD}
 use Rattle.model.specs.declared.Event.{Event}
 use Rattle.model.specs.declared.Counts.{Counts}
@@ -33,8 +33,11 @@ abbrev pub noEvent : Event
 noEvent = record { task = 0; kind = 0; object = 0 }
 
 -- event e is record e
+abbrev pub eventIn : List Event → ℕ → Event
+eventIn l e = getD l e noEvent
+
 abbrev pub event : Recording → ℕ → Event
-event E e = getD (E .events) e noEvent
+event E e = eventIn (E .events) e
 
 abbrev pub taskOf : Recording → ℕ → ℕ
 taskOf E e = event E e .task
@@ -45,7 +48,25 @@ kindOf E e = event E e .kind
 abbrev pub objectOf : Recording → ℕ → ℕ
 objectOf E e = event E e .object
 
--- ---- kinds: 1 signal, 2 wait, 3 fork, 4 join, 5 read, 6 write
+-- ---- kinds
+
+abbrev pub signal : ℕ
+signal = 1
+
+abbrev pub wait : ℕ
+wait = 2
+
+abbrev pub fork : ℕ
+fork = 3
+
+abbrev pub join : ℕ
+join = 4
+
+abbrev pub read : ℕ
+read = 5
+
+abbrev pub write : ℕ
+write = 6
 
 abbrev pub ofTask : ℕ → Event → Bool
 ofTask t v = eqb (v .task) t
@@ -55,16 +76,16 @@ abbrev pub isOn : ℕ → ℕ → Event → Bool
 isOn k x v = eqb (v .kind) k && eqb (v .object) x
 
 abbrev pub isSignal : ℕ → Event → Bool
-isSignal s v = isOn 1 s v
+isSignal s v = isOn signal s v
 
 abbrev pub isWait : ℕ → Event → Bool
-isWait s v = isOn 2 s v
+isWait s v = isOn wait s v
 
 abbrev pub isFork : ℕ → Event → Bool
-isFork t v = isOn 3 t v
+isFork t v = isOn fork t v
 
 abbrev pub isJoin : ℕ → Event → Bool
-isJoin t v = isOn 4 t v
+isJoin t v = isOn join t v
 
 -- ---- the four rules, for the event v after the events `before`
 
@@ -79,18 +100,18 @@ notJoined before v = eqb (count (isJoin (v .task)) before) 0
 -- a fork names another task, not forked before and with no record before
 abbrev pub forkKept : List Event → Event → Bool
 forkKept before v =
-    implies (eqb (v .kind) 3)
+    implies (eqb (v .kind) fork)
     (not (eqb (v .object) (v .task)) && eqb (count (isFork (v .object)) before) 0 && eqb (count (ofTask (v .object)) before) 0)
 
 -- a join names another task, forked before and not joined before
 abbrev pub joinKept : List Event → Event → Bool
 joinKept before v =
-    implies (eqb (v .kind) 4)
+    implies (eqb (v .kind) join)
     (not (eqb (v .object) (v .task)) && ltb 0 (count (isFork (v .object)) before) && eqb (count (isJoin (v .object)) before) 0)
 
 -- at a wait, the earlier signals on that semaphore outnumber the earlier waits on it
 unfoldable pub waitKept : List Event → Event → Bool
-waitKept before v = implies (eqb (v .kind) 2) (ltb (count (isWait (v .object)) before) (count (isSignal (v .object)) before))
+waitKept before v = implies (eqb (v .kind) wait) (ltb (count (isWait (v .object)) before) (count (isSignal (v .object)) before))
 
 -- the first three rules
 unfoldable pub lifeKept : List Event → Event → Bool
@@ -116,9 +137,9 @@ namesOf c Class.Semaphore = c .semaphores
 namesOf c Class.Task = c .tasks
 namesOf c Class.Cell = c .cells
 
--- the kind is 1 to 6
+-- the kind is one of the table's, 1 to 6
 unfoldable pub knownKind : Event → Bool
-knownKind v = ltb 0 (v .kind) && ltb (v .kind) 7
+knownKind v = leb signal (v .kind) && leb (v .kind) write
 
 -- task and object are below their counts
 unfoldable pub named : Counts → Event → Bool

@@ -13,7 +13,7 @@ use Rattle.model.specs.Recording.{Recording, size, tasks, objectOf}
 use Rattle.model.specs.File.{recordingOf}
 use Rattle.model.specs.Passes.{run}
 use Rattle.model.specs.Pairs.{Entry, listed}
-use Rattle.model.specs.Analysing.{analysisCheck, workAfter, listAfter}
+use Rattle.model.specs.Analysing.{analysisCheck, workAfterAnalysing, listAfterAnalysing}
 use Rattle.model.specs.Text.{bytes, decimal}
 
 -- a word and a number
@@ -57,13 +57,13 @@ budgetOf E = size E * size E + 1
 
 -- the report of an analysis with a budget
 unfoldable pub resultText : Recording → ℕ → List ℕ
-resultText E b =
-    resultLine (size E) (tasks E) (run E b .passes) (run E b .settled) (length (listed E b)) ++ entriesText E (listed E b)
+resultText E budget =
+    resultLine (size E) (tasks E) (run E budget .passes) (run E budget .settled) (length (listed E budget)) ++ entriesText E (listed E budget)
 
 -- of a recording that passes, the result; else the refusal
 abbrev pub reportBy : Recording → ℕ → Check → List ℕ
-reportBy E b Check.Passed = resultText E b
-reportBy E b (Check.Failed r) = refusalLine r
+reportBy E budget Check.Passed = resultText E budget
+reportBy E budget (Check.Failed r) = refusalLine r
 
 -- a file of more than 16,384 bytes is too long, and then nothing else is computed
 abbrev pub ifLong : {A : Type 0} → Bool → A → (Unit {0} → A) → A
@@ -80,11 +80,11 @@ reportOf f work list =
     let E = recordingOf f in reportBy E (budgetOf E) (analysisCheck f (budgetOf E) work list)
 
 -- what it leaves in them
-unfoldable pub reportedWork : List ℕ → List ℕ → List ℕ
-reportedWork f work = ifLong (isLong f) work λ _. workAfter f (budgetOf (recordingOf f)) work
+unfoldable pub workAfterReporting : List ℕ → List ℕ → List ℕ
+workAfterReporting f work = ifLong (isLong f) work λ _. workAfterAnalysing f (budgetOf (recordingOf f)) work
 
-unfoldable pub reportedList : List ℕ → List ℕ → List ℕ → List ℕ
-reportedList f work list = ifLong (isLong f) list λ _. listAfter f (budgetOf (recordingOf f)) work list
+unfoldable pub listAfterReporting : List ℕ → List ℕ → List ℕ → List ℕ
+listAfterReporting f work list = ifLong (isLong f) list λ _. listAfterAnalysing f (budgetOf (recordingOf f)) work list
 
 -- ---- the report in a lent output: what does not fit is left off, and what it does not reach is kept
 

@@ -6,11 +6,12 @@ use mathlib.Core.List.{List, [], _∷_, _++_}
 use lib.Dec.{leb, eqb}
 use lib.ListN.{getD}
 use Rattle.model.specs.Numbers.{tally, listOf}
-use Rattle.model.specs.Recording.{Recording, size, tasks, event, taskOf, ofTask}
+use Rattle.model.specs.declared.Event.{Event}
+use Rattle.model.specs.Recording.{Recording, size, tasks, eventIn, taskOf, ofTask}
 
 -- the position of e: its place among its task's records, from 1
-unfoldable pub position : Recording → ℕ → ℕ
-position E e = tally (λ a. ofTask (taskOf E e) (event E a)) (suc e)
+unfoldable pub position : List Event → ℕ → ℕ
+position l e = tally (λ a. ofTask (eventIn l e .task) (eventIn l a)) (suc e)
 
 -- one vector for each event, and in it one number for each task
 abbrev pub Vectors : Type 0
@@ -27,12 +28,12 @@ flat (r ∷ X) = r ++ flat X
 
 -- at the start an event's own task's number is its position and the others are 0
 unfoldable pub start : Recording → Vectors
-start E = listOf (λ e. listOf (λ t. cond (eqb t (taskOf E e)) (position E e) 0) (tasks E)) (size E)
+start E = listOf (λ e. listOf (λ t. cond (eqb t (taskOf E e)) (position (E .events) e) 0) (tasks E)) (size E)
 
 -- event a is ordered before another event b: b's number for a's task is at least a's position
-unfoldable pub ordered : Recording → Vectors → ℕ → ℕ → Bool
-ordered E X a b = not (eqb a b) && leb (position E a) (number X b (taskOf E a))
+unfoldable pub ordered : List Event → Vectors → ℕ → ℕ → Bool
+ordered l X a b = not (eqb a b) && leb (position l a) (number X b (eventIn l a .task))
 
 -- neither event is ordered before the other
-unfoldable pub unordered : Recording → Vectors → ℕ → ℕ → Bool
-unordered E X a b = not (ordered E X a b) && not (ordered E X b a)
+unfoldable pub unordered : List Event → Vectors → ℕ → ℕ → Bool
+unordered l X a b = not (ordered l X a b) && not (ordered l X b a)

@@ -49,5 +49,5 @@ unfoldable pub writtenOf : List ℕ → Counts → List ℕ → Written
 writtenOf s c out = writtenBy s (writingCheck s c out)
 
 -- the output after writing: the file, and beyond it what was there
-unfoldable pub outAfter : List ℕ → Counts → List ℕ → List ℕ
-outAfter s c out = after (writingCheck s c out) (λ _. fileOf s c ++ drop (length s + 16) out) out
+unfoldable pub outAfterWriting : List ℕ → Counts → List ℕ → List ℕ
+outAfterWriting s c out = after (writingCheck s c out) (λ _. fileOf s c ++ drop (length s + 16) out) out

@@ -4,6 +4,28 @@ ghost use mathlib.Core.Path.{_≡_};
 ghost use Rattle.model.specs.Refusals.{numberOf, recordOf, pairsOf};
 ghost use Rattle.model.specs.Question.{relationNumber};
 
+// The kinds of records.
+pub const SIGNAL: u8 = 1;
+
+pub const WAIT: u8 = 2;
+
+pub const FORK: u8 = 3;
+
+pub const JOIN: u8 = 4;
+
+pub const READ: u8 = 5;
+
+pub const WRITE: u8 = 6;
+
+// The most tasks, semaphores, cells and events that a recording has.
+pub const MOST_TASKS: u16 = 16;
+
+pub const MOST_SEMAPHORES: u16 = 64;
+
+pub const MOST_CELLS: u16 = 1024;
+
+pub const MOST_EVENTS: usize = 1024;
+
 // An event is one record of a recording.
 pub struct Event {
     pub task: u8,
@@ -19,7 +41,7 @@ pub struct Counts {
 }
 
 // The trailer of a file: where its first record starts, how many records it has, and its counts.
-pub struct Header {
+pub struct Trailer {
     pub start: usize,
     pub records: usize,
     pub counts: Counts,
@@ -63,7 +85,7 @@ pub enum Check {
 
 // The answer to reading a file.
 pub enum Reading {
-    Accepted(Header),
+    Accepted(Trailer),
     Refused(Refusal),
 }
 

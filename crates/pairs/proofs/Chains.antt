@@ -5,9 +5,8 @@ use mathlib.Core.List.{List, []}
 use Prim.Native.Nat.{ℕ, _<_}
 use native.Mathlib.Omega.{arith}
 use lib.Dec.{leb, eqb}
-use lib.ListN.{length, getD}
+use lib.ListN.{length}
 use Rattle.model.specs.Numbers.{each}
-use Rattle.model.specs.Recording.{noEvent}
 use Rattle.model.specs.File.{eventsOf}
 use Rattle.model.specs.Pairs.{isAccess}
 use Rattle.model.proofs.Tests.{cases, tests, fails, both, first, second, eqb-true, eq-eqb}
@@ -15,6 +14,7 @@ use Rattle.events.specs.Chains.{among, Chained as ChainedOf}
 use Rattle.events.proofs.Chains.{chained-by}
 use Rattle.pairs.specs.Chains.{accessOf, Nearest, Chained, InChain}
 use Rattle.pairs.proofs.Each.{each-skip}
+use Rattle.model.specs.Recording.{eventIn}
 
 -- the kinds 5 to 6 are the accesses
 two-kinds : (k : ℕ) → (leb 5 k && leb k 6) ≡ (eqb k 5 || eqb k 6)
@@ -25,12 +25,12 @@ two-kinds k =
 
 pub gathered : (s : List ℕ) (n k : ℕ) (chain : List ℕ) → n ≡ length (eventsOf s) → ChainedOf (among s 5 6) n k 0 chain → Chained s k chain
 gathered s n k chain q c =
-    rw q at (chained-by (among s 5 6) (accessOf s) n k 0 chain (λ x i. ap (λ (b : Bool). b && eqb (getD (eventsOf s) i noEvent .object) x) (two-kinds (getD (eventsOf s) i noEvent .kind))) c)
+    rw q at (chained-by (among s 5 6) (accessOf s) n k 0 chain (λ x i. ap (λ (b : Bool). b && eqb (eventIn (eventsOf s) i .object) x) (two-kinds (eventIn (eventsOf s) i .kind))) c)
 
 -- an access of a cell below k stands in the chain of its cell
 pub in-chain : (s : List ℕ) (k x a : ℕ) → a < length (eventsOf s) → x < k → accessOf s x a ≡ true → InChain s k a
 in-chain s k x a h l t =
-    let v = getD (eventsOf s) a noEvent in
+    let v = eventIn (eventsOf s) a in
     let e = eqb-true (v .object) x (second (isAccess v) (eqb (v .object) x) t) in
     record { numbered = h; cell = omega arith; access = both (first (isAccess v) (eqb (v .object) x) t) (eq-eqb (v .object) (v .object) refl) }
 

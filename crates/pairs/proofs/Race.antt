@@ -13,9 +13,8 @@ use Rattle.model.specs.Numbers.{each}
 use Rattle.model.specs.Recording.{Recording, size, cells, event, objectOf}
 use Rattle.model.specs.File.{recordingBy}
 use Rattle.model.specs.Vectors.{Vectors, unordered}
-use Rattle.model.specs.Pairs.{isAccess, isWrite, conflict, racePair, mark, Entry, entry, entriesOf, cellEntries, entries}
+use Rattle.model.specs.Pairs.{isAccess, isWrite, conflict, racePair, mark, Entry, entry, entriesOf, cellEntries, entries, pairAt, rowAt}
 use Rattle.model.proofs.Tests.{cases, tests, clash, fails, both, first, second, and-fails, and-false}
-use Rattle.pairs.specs.Lent.{pairAt, rowAt}
 use Rattle.pairs.specs.Chains.{isAccessOf, Nearest}
 use Rattle.pairs.proofs.Chains.{skipped}
 use Rattle.pairs.proofs.Each.{each-none, each-most, each-count}
@@ -61,7 +60,7 @@ module _ (E : Recording) (X : Vectors) (a b : ℕ) where
   unfolding racePair
   race-none h p = rw (p, lt-ltb a b h)
 
-  pub race-by : (u : Bool) → a < b → conflict (event E a) (event E b) ≡ true → u ≡ unordered E X a b → u ≡ racePair E X a b
+  pub race-by : (u : Bool) → a < b → conflict (event E a) (event E b) ≡ true → u ≡ unordered (E .events) X a b → u ≡ racePair E X a b
   unfolding racePair
   race-by u h p e = rw (p, lt-ltb a b h, e)
 
@@ -77,7 +76,7 @@ module _ (E : Recording) (X : Vectors) (a b : ℕ) where
   unfolding racePair
   race-other p = rw (conflict-other (event E a) (event E b) p, and-fails (ltb a b) refl)
 
-  pub mark-by : (m : Bool) → m ≡ unordered E X a b → _≡_ {A = ℕ} (cond m 1 0) (mark E X a b)
+  pub mark-by : (m : Bool) → m ≡ unordered (E .events) X a b → _≡_ {A = ℕ} (cond m 1 0) (mark E X a b)
   unfolding mark
   mark-by m e = rw e
 

@@ -10,9 +10,9 @@ use borrow.Author.Tests.{le-leb, lt-leb}
 use Rattle.model.specs.Numbers.{each}
 use Rattle.model.specs.Recording.{Recording}
 use Rattle.model.specs.Vectors.{Vectors}
-use Rattle.model.specs.Pairs.{racePair, mark, Entry, entryNumbers}
+use Rattle.model.specs.Pairs.{racePair, mark, Entry, entryNumbers, pairAt}
 use Rattle.vectors.proofs.Stores.{sets-append, sets-front}
-use Rattle.pairs.specs.Lent.{pairAt, Stored, Outcome}
+use Rattle.pairs.specs.Lent.{Stored, WrittenList}
 use Rattle.pairs.proofs.Each.{each-more, each-count, each-longer}
 use Rattle.pairs.proofs.Race.{pair-hit}
 
@@ -72,11 +72,11 @@ stored-front : (l : List ℕ) (es : List Entry) (m : List ℕ) (p : ℕ) → 3 *
 stored-front l es m p h s = s .numbers ∙ sets-front l (entryNumbers es) (3 * length es) (numbers-length es) h
 
 -- the entries do not fit, and the list is as it was
-pub refused : (es : List Entry) (l : List ℕ) (n : ℕ) → n ≡ length es → length l < 3 * n → Outcome es l l false n
+pub refused : (es : List Entry) (l : List ℕ) (n : ℕ) → n ≡ length es → length l < 3 * n → WrittenList es l l false n
 refused es l n e h = record { counted = e; room = sym (lt-leb (3 * length es) (length l) (omega arith)); written = refl }
 
 -- they fit, and are written
-pub listed : (es : List Entry) (l m : List ℕ) (n p : ℕ) → n ≡ length es → 3 * n ≤ length l → Stored l 0 es m p → Outcome es l m true n
+pub listed : (es : List Entry) (l m : List ℕ) (n p : ℕ) → n ≡ length es → 3 * n ≤ length l → Stored l 0 es m p → WrittenList es l m true n
 listed es l m n p e h s =
     let r : 3 * length es ≤ length l = omega arith in
     record { counted = e; room = sym (le-leb (3 * length es) (length l) r); written = stored-front l es m p r s }

@@ -5,12 +5,12 @@ use mathlib.Core.Path.{_≡_}
 use mathlib.Core.Bool.{Bool, true, _&&_}
 use mathlib.Core.List.{List}
 use lib.Dec.{eqb}
-use lib.ListN.{length, getD}
+use lib.ListN.{length}
 use Rattle.model.specs.declared.Event.{Event}
-use Rattle.model.specs.Recording.{noEvent}
 use Rattle.model.specs.File.{eventsOf}
 use Rattle.model.specs.Pairs.{isAccess}
 use Rattle.events.specs.Chains.{Nearest as NearestOf, Chained as ChainedOf}
+use Rattle.model.specs.Recording.{eventIn}
 
 -- an access of cell x
 abbrev pub isAccessOf : ℕ → Event → Bool
@@ -18,7 +18,7 @@ isAccessOf x v = isAccess v && eqb (v .object) x
 
 -- event i of the record bytes s accesses cell x
 abbrev pub accessOf : List ℕ → ℕ → ℕ → Bool
-accessOf s x i = isAccessOf x (getD (eventsOf s) i noEvent)
+accessOf s x i = isAccessOf x (eventIn (eventsOf s) i)
 
 -- from m on the nearest access of cell x is b; the number of events where there is none
 abbrev pub Nearest : List ℕ → ℕ → ℕ → ℕ → Type 0
@@ -31,5 +31,5 @@ Chained s k chain = ChainedOf (accessOf s) (length (eventsOf s)) k 0 chain
 -- event a stands in the chain of its cell, which is below k
 pub record InChain (s : List ℕ) (k a : ℕ) : Type 0 where
   pub numbered : a < length (eventsOf s)
-  pub cell : getD (eventsOf s) a noEvent .object < k
-  pub access : accessOf s (getD (eventsOf s) a noEvent .object) a ≡ true
+  pub cell : eventIn (eventsOf s) a .object < k
+  pub access : accessOf s (eventIn (eventsOf s) a .object) a ≡ true

@@ -4,28 +4,34 @@ ghost use mathlib.Core.List.{[], _∷_};
 ghost use Prim.Native.Nat.{_+_, _*_, _≤_, _<_};
 ghost use lib.ListN.{length};
 ghost use lib.Seq.{sets};
-ghost use Rattle.model.specs.File.{recordingBy};
+ghost use Rattle.model.specs.File.{recordingBy, eventsOf};
 ghost use Rattle.model.specs.Vectors.{Vectors, unordered};
-ghost use Rattle.model.specs.Pairs.{isAccess, isWrite, conflict, racePair, mark, entriesOf, cellEntries, entries};
-ghost use Rattle.passes.specs.Lent.{vectorsIn, Fitting, Numbered, Records, Placed};
+ghost use Rattle.model.specs.Pairs.{isAccess, isWrite, conflict, racePair, mark, pairAt, entriesOf, cellEntries, entries};
+ghost use Rattle.model.specs.Question.{relationBy};
+ghost use Rattle.model.specs.Reading.{mostCells};
+ghost use Rattle.passes.specs.Lent.{vectorsIn, Fitting, Numbered, Placed};
 ghost use Rattle.pairs.specs.Chains.{Chained, InChain};
-ghost use Rattle.pairs.specs.Lent.{over, Lent, pairAt, Stored, Outcome, relationBy};
+ghost use Rattle.pairs.specs.Lent.{over, Lent, Stored, WrittenList};
+use events::CHAINS;
 use model::Counts;
 use model::Event;
+use model::MOST_EVENTS;
+use model::READ;
 use model::Relation;
+use model::WRITE;
 
 // Whether the event is a write.
 fn is_write(v: Event) -> bool
     ensures { λ r. ⌜ r ≡ isWrite v ⌝ }
 {
-    v.kind == 6
+    v.kind == WRITE
 }
 
 // Whether the event is a read or a write.
 fn is_access(v: Event) -> bool
     ensures { λ r. ⌜ r ≡ isAccess v ⌝ }
 {
-    (v.kind == 5) | is_write(v)
+    (v.kind == READ) | is_write(v)
 }
 
 // Whether the two events access one cell, from different tasks, at least one writing.
@@ -40,35 +46,57 @@ pub fn conflict(v: Event, w: Event) -> bool
 }
 
 // Whether the vectors order neither event before the other.
-fn unordered(recs: &[u8], counts: Counts, at: &[u16], v: &[u16], a: usize, b: usize) -> bool
-    requires { ⌜ Placed (now recs) counts (now at) × Fitting (now recs) counts (now v) ⌝ }
-    requires { ⌜ Numbered (now recs) a × Numbered (now recs) b ⌝ }
-    ensures { λ r. ⌜ r ≡ unordered (recordingBy (now (recs .entry)) counts) (vectorsIn (now (recs .entry)) counts (now (v .entry))) a b ⌝ }
+fn unordered(
+    records: &[u8],
+    counts: Counts,
+    positions: &[u16],
+    v: &[u16],
+    a: usize,
+    b: usize,
+) -> bool
+    requires { ⌜ Placed (now records) counts (now positions) × Fitting (now records) counts (now v) ⌝ }
+    requires { ⌜ Numbered (now records) a × Numbered (now records) b ⌝ }
+    ensures { λ r. ⌜ r ≡ unordered (eventsOf (now (records .entry))) (vectorsIn (now (records .entry)) counts (now (v .entry))) a b ⌝ }
 {
-    !passes::ordered(recs, counts, at, v, a, b) & !passes::ordered(recs, counts, at, v, b, a)
+    !passes::ordered(records, counts, positions, v, a, b)
+        & !passes::ordered(records, counts, positions, v, b, a)
 }
 
 // Whether a and b, the lower first, are a race pair by the safe vectors.
-fn race_pair(recs: &[u8], counts: Counts, at: &[u16], safe: &[u16], a: usize, b: usize) -> bool
-    requires { ⌜ Placed (now recs) counts (now at) × Fitting (now recs) counts (now safe) ⌝ }
-    requires { ⌜ (a < b) × Numbered (now recs) b ⌝ }
-    ensures { λ r. ⌜ r ≡ racePair (recordingBy (now (recs .entry)) counts) (vectorsIn (now (recs .entry)) counts (now (safe .entry))) a b ⌝ }
+fn race_pair(
+    records: &[u8],
+    counts: Counts,
+    positions: &[u16],
+    safe: &[u16],
+    a: usize,
+    b: usize,
+) -> bool
+    requires { ⌜ Placed (now records) counts (now positions) × Fitting (now records) counts (now safe) ⌝ }
+    requires { ⌜ (a < b) × Numbered (now records) b ⌝ }
+    ensures { λ r. ⌜ r ≡ racePair (recordingBy (now (records .entry)) counts) (vectorsIn (now (records .entry)) counts (now (safe .entry))) a b ⌝ }
 {
-    let v = events::event_at(recs, a);
-    let w = events::event_at(recs, b);
+    let v = events::event_at(records, a);
+    let w = events::event_at(records, b);
     if !conflict(v, w) {
         return false;
     }
-    unordered(recs, counts, at, safe, a, b)
+    unordered(records, counts, positions, safe, a, b)
 }
 
 // The mark of a pair: 1 where the recorded vectors do not order it, else 0.
-fn mark(recs: &[u8], counts: Counts, at: &[u16], recorded: &[u16], a: usize, b: usize) -> u16
-    requires { ⌜ Placed (now recs) counts (now at) × Fitting (now recs) counts (now recorded) ⌝ }
-    requires { ⌜ Numbered (now recs) a × Numbered (now recs) b ⌝ }
-    ensures { λ r. ⌜ r ≡ mark (recordingBy (now (recs .entry)) counts) (vectorsIn (now (recs .entry)) counts (now (recorded .entry))) a b ⌝ }
+fn mark(
+    records: &[u8],
+    counts: Counts,
+    positions: &[u16],
+    recorded: &[u16],
+    a: usize,
+    b: usize,
+) -> u16
+    requires { ⌜ Placed (now records) counts (now positions) × Fitting (now records) counts (now recorded) ⌝ }
+    requires { ⌜ Numbered (now records) a × Numbered (now records) b ⌝ }
+    ensures { λ r. ⌜ r ≡ mark (recordingBy (now (records .entry)) counts) (vectorsIn (now (records .entry)) counts (now (recorded .entry))) a b ⌝ }
 {
-    if unordered(recs, counts, at, recorded, a, b) {
+    if unordered(records, counts, positions, recorded, a, b) {
         1
     } else {
         0
@@ -76,12 +104,19 @@ fn mark(recs: &[u8], counts: Counts, at: &[u16], recorded: &[u16], a: usize, b: 
 }
 
 // How many entries a and b have: 1 where they are a race pair. Its mark does not matter.
-fn count_pair(recs: &[u8], counts: Counts, at: &[u16], safe: &[u16], a: usize, b: usize) -> usize
-    requires { ⌜ Placed (now recs) counts (now at) × Fitting (now recs) counts (now safe) ⌝ }
-    requires { ⌜ (a < b) × Numbered (now recs) b ⌝ }
-    ensures { λ r. ⌜ ((R : Vectors) → r ≡ length (pairAt (recordingBy (now (recs .entry)) counts) (vectorsIn (now (recs .entry)) counts (now (safe .entry))) R a b)) ⌝ }
+fn count_pair(
+    records: &[u8],
+    counts: Counts,
+    positions: &[u16],
+    safe: &[u16],
+    a: usize,
+    b: usize,
+) -> usize
+    requires { ⌜ Placed (now records) counts (now positions) × Fitting (now records) counts (now safe) ⌝ }
+    requires { ⌜ (a < b) × Numbered (now records) b ⌝ }
+    ensures { λ r. ⌜ ((R : Vectors) → r ≡ length (pairAt (recordingBy (now (records .entry)) counts) (vectorsIn (now (records .entry)) counts (now (safe .entry))) R a b)) ⌝ }
 {
-    if race_pair(recs, counts, at, safe, a, b) {
+    if race_pair(records, counts, positions, safe, a, b) {
         1
     } else {
         0
@@ -90,22 +125,22 @@ fn count_pair(recs: &[u8], counts: Counts, at: &[u16], safe: &[u16], a: usize, b
 
 // How many entries have the lower event a, an access: those with the events behind it in its chain.
 fn count_row(
-    recs: &[u8],
+    records: &[u8],
     counts: Counts,
-    at: &[u16],
-    chain: &[u16; 2048],
+    positions: &[u16],
+    chain: &[u16; CHAINS],
     safe: &[u16],
     a: usize,
 ) -> usize
-    requires { ⌜ Placed (now recs) counts (now at) × Fitting (now recs) counts (now safe) ⌝ }
-    requires { ⌜ Chained (now recs) (counts .cells) (now chain) × InChain (now recs) (counts .cells) a ⌝ }
-    ensures { λ r. ⌜ ((R : Vectors) → r ≡ length (entriesOf (recordingBy (now (recs .entry)) counts) (vectorsIn (now (recs .entry)) counts (now (safe .entry))) R a)) ⌝ }
+    requires { ⌜ Placed (now records) counts (now positions) × Fitting (now records) counts (now safe) ⌝ }
+    requires { ⌜ Chained (now records) (counts .cells) (now chain) × InChain (now records) (counts .cells) a ⌝ }
+    ensures { λ r. ⌜ ((R : Vectors) → r ≡ length (entriesOf (recordingBy (now (records .entry)) counts) (vectorsIn (now (records .entry)) counts (now (safe .entry))) R a)) ⌝ }
 {
-    let n = recs.len() / 4;
+    let n = records.len() / 4;
     let mut pairs: usize = 0;
     let mut b = chain[a] as usize;
     while b < n {
-        pairs += count_pair(recs, counts, at, safe, a, b);
+        pairs += count_pair(records, counts, positions, safe, a, b);
         b = chain[b] as usize;
     }
     pairs
@@ -113,38 +148,44 @@ fn count_row(
 
 // How many entries the cell has: those of the events in its chain.
 fn count_cell(
-    recs: &[u8],
+    records: &[u8],
     counts: Counts,
-    at: &[u16],
-    chain: &[u16; 2048],
+    positions: &[u16],
+    chain: &[u16; CHAINS],
     safe: &[u16],
     cell: u16,
 ) -> usize
-    requires { ⌜ Placed (now recs) counts (now at) × Fitting (now recs) counts (now safe) ⌝ }
-    requires { ⌜ Chained (now recs) (counts .cells) (now chain) × (cell < counts .cells) × (counts .cells ≤ 1024) ⌝ }
-    ensures { λ r. ⌜ ((R : Vectors) → r ≡ length (cellEntries (recordingBy (now (recs .entry)) counts) (vectorsIn (now (recs .entry)) counts (now (safe .entry))) R cell)) ⌝ }
+    requires { ⌜ Placed (now records) counts (now positions) × Fitting (now records) counts (now safe) ⌝ }
+    requires { ⌜ Chained (now records) (counts .cells) (now chain) × (cell < counts .cells) × (counts .cells ≤ mostCells) ⌝ }
+    ensures { λ r. ⌜ ((R : Vectors) → r ≡ length (cellEntries (recordingBy (now (records .entry)) counts) (vectorsIn (now (records .entry)) counts (now (safe .entry))) R cell)) ⌝ }
 {
-    let n = recs.len() / 4;
+    let n = records.len() / 4;
     let mut pairs: usize = 0;
-    let mut a = chain[1024 + (cell as usize)] as usize;
+    let mut a = chain[MOST_EVENTS + (cell as usize)] as usize;
     while a < n {
-        pairs += count_row(recs, counts, at, chain, safe, a);
+        pairs += count_row(records, counts, positions, chain, safe, a);
         a = chain[a] as usize;
     }
     pairs
 }
 
 // How many entries the list has.
-fn count(recs: &[u8], counts: Counts, at: &[u16], chain: &[u16; 2048], safe: &[u16]) -> usize
-    requires { ⌜ Placed (now recs) counts (now at) × Fitting (now recs) counts (now safe) ⌝ }
-    requires { ⌜ Chained (now recs) (counts .cells) (now chain) × (counts .cells ≤ 1024) ⌝ }
-    ensures { λ r. ⌜ ((R : Vectors) → r ≡ length (entries (recordingBy (now (recs .entry)) counts) (vectorsIn (now (recs .entry)) counts (now (safe .entry))) R)) ⌝ }
+fn count(
+    records: &[u8],
+    counts: Counts,
+    positions: &[u16],
+    chain: &[u16; CHAINS],
+    safe: &[u16],
+) -> usize
+    requires { ⌜ Placed (now records) counts (now positions) × Fitting (now records) counts (now safe) ⌝ }
+    requires { ⌜ Chained (now records) (counts .cells) (now chain) × (counts .cells ≤ mostCells) ⌝ }
+    ensures { λ r. ⌜ ((R : Vectors) → r ≡ length (entries (recordingBy (now (records .entry)) counts) (vectorsIn (now (records .entry)) counts (now (safe .entry))) R)) ⌝ }
 {
     let cells = counts.cells;
     let mut pairs: usize = 0;
     let mut cell: u16 = 0;
     while cell < cells {
-        pairs += count_cell(recs, counts, at, chain, safe, cell);
+        pairs += count_cell(records, counts, positions, chain, safe, cell);
         cell += 1;
     }
     pairs
@@ -162,9 +203,9 @@ fn put_entry(out: &mut [u16], at: usize, a: u16, b: u16, mark: u16)
 
 // Writes the entry of a and b at place p, where they are a race pair. Answers the place after it.
 fn list_pair(
-    recs: &[u8],
+    records: &[u8],
     counts: Counts,
-    at: &[u16],
+    positions: &[u16],
     safe: &[u16],
     recorded: &[u16],
     a: usize,
@@ -172,39 +213,39 @@ fn list_pair(
     out: &mut [u16],
     p: usize,
 ) -> usize
-    requires { ⌜ Lent (now recs) counts (now at) (now safe) (now recorded) × (a < b) × Numbered (now recs) b ⌝ }
-    requires { ⌜ p + 3 * length (over pairAt (now recs) counts (now safe) (now recorded) a b) ≤ length (now out) ⌝ }
-    ensures { λ r. ⌜ Stored (now (out .entry)) p (over pairAt (now (recs .entry)) counts (now (safe .entry)) (now (recorded .entry)) a b) (now (out .exit)) r ⌝ }
+    requires { ⌜ Lent (now records) counts (now positions) (now safe) (now recorded) × (a < b) × Numbered (now records) b ⌝ }
+    requires { ⌜ p + 3 * length (over pairAt (now records) counts (now safe) (now recorded) a b) ≤ length (now out) ⌝ }
+    ensures { λ r. ⌜ Stored (now (out .entry)) p (over pairAt (now (records .entry)) counts (now (safe .entry)) (now (recorded .entry)) a b) (now (out .exit)) r ⌝ }
 {
-    if !race_pair(recs, counts, at, safe, a, b) {
+    if !race_pair(records, counts, positions, safe, a, b) {
         return p;
     }
-    let m = mark(recs, counts, at, recorded, a, b);
+    let m = mark(records, counts, positions, recorded, a, b);
     put_entry(out, p, a as u16, b as u16, m);
     p + 3
 }
 
 // Writes the entries with the lower event a, an access, from place p on. Answers the place after them.
 fn list_row(
-    recs: &[u8],
+    records: &[u8],
     counts: Counts,
-    at: &[u16],
-    chain: &[u16; 2048],
+    positions: &[u16],
+    chain: &[u16; CHAINS],
     safe: &[u16],
     recorded: &[u16],
     a: usize,
     out: &mut [u16],
     p: usize,
 ) -> usize
-    requires { ⌜ Lent (now recs) counts (now at) (now safe) (now recorded) × Chained (now recs) (counts .cells) (now chain) × InChain (now recs) (counts .cells) a ⌝ }
-    requires { ⌜ p + 3 * length (over entriesOf (now recs) counts (now safe) (now recorded) a) ≤ length (now out) ⌝ }
-    ensures { λ r. ⌜ Stored (now (out .entry)) p (over entriesOf (now (recs .entry)) counts (now (safe .entry)) (now (recorded .entry)) a) (now (out .exit)) r ⌝ }
+    requires { ⌜ Lent (now records) counts (now positions) (now safe) (now recorded) × Chained (now records) (counts .cells) (now chain) × InChain (now records) (counts .cells) a ⌝ }
+    requires { ⌜ p + 3 * length (over entriesOf (now records) counts (now safe) (now recorded) a) ≤ length (now out) ⌝ }
+    ensures { λ r. ⌜ Stored (now (out .entry)) p (over entriesOf (now (records .entry)) counts (now (safe .entry)) (now (recorded .entry)) a) (now (out .exit)) r ⌝ }
 {
-    let n = recs.len() / 4;
+    let n = records.len() / 4;
     let mut next = p;
     let mut b = chain[a] as usize;
     while b < n {
-        next = list_pair(recs, counts, at, safe, recorded, a, b, out, next);
+        next = list_pair(records, counts, positions, safe, recorded, a, b, out, next);
         b = chain[b] as usize;
     }
     next
@@ -212,25 +253,35 @@ fn list_row(
 
 // Writes the entries of a cell from place p on. Answers the place after them.
 fn list_cell(
-    recs: &[u8],
+    records: &[u8],
     counts: Counts,
-    at: &[u16],
-    chain: &[u16; 2048],
+    positions: &[u16],
+    chain: &[u16; CHAINS],
     safe: &[u16],
     recorded: &[u16],
     cell: u16,
     out: &mut [u16],
     p: usize,
 ) -> usize
-    requires { ⌜ Lent (now recs) counts (now at) (now safe) (now recorded) × Chained (now recs) (counts .cells) (now chain) × (cell < counts .cells) ⌝ }
-    requires { ⌜ p + 3 * length (over cellEntries (now recs) counts (now safe) (now recorded) cell) ≤ length (now out) ⌝ }
-    ensures { λ r. ⌜ Stored (now (out .entry)) p (over cellEntries (now (recs .entry)) counts (now (safe .entry)) (now (recorded .entry)) cell) (now (out .exit)) r ⌝ }
+    requires { ⌜ Lent (now records) counts (now positions) (now safe) (now recorded) × Chained (now records) (counts .cells) (now chain) × (cell < counts .cells) ⌝ }
+    requires { ⌜ p + 3 * length (over cellEntries (now records) counts (now safe) (now recorded) cell) ≤ length (now out) ⌝ }
+    ensures { λ r. ⌜ Stored (now (out .entry)) p (over cellEntries (now (records .entry)) counts (now (safe .entry)) (now (recorded .entry)) cell) (now (out .exit)) r ⌝ }
 {
-    let n = recs.len() / 4;
+    let n = records.len() / 4;
     let mut next = p;
-    let mut a = chain[1024 + (cell as usize)] as usize;
+    let mut a = chain[MOST_EVENTS + (cell as usize)] as usize;
     while a < n {
-        next = list_row(recs, counts, at, chain, safe, recorded, a, out, next);
+        next = list_row(
+            records,
+            counts,
+            positions,
+            chain,
+            safe,
+            recorded,
+            a,
+            out,
+            next,
+        );
         a = chain[a] as usize;
     }
     next
@@ -238,24 +289,34 @@ fn list_cell(
 
 // Writes all entries from place p on. Answers the place after them.
 fn list_all(
-    recs: &[u8],
+    records: &[u8],
     counts: Counts,
-    at: &[u16],
-    chain: &[u16; 2048],
+    positions: &[u16],
+    chain: &[u16; CHAINS],
     safe: &[u16],
     recorded: &[u16],
     out: &mut [u16],
     p: usize,
 ) -> usize
-    requires { ⌜ Lent (now recs) counts (now at) (now safe) (now recorded) × Chained (now recs) (counts .cells) (now chain) ⌝ }
-    requires { ⌜ p + 3 * length (over entries (now recs) counts (now safe) (now recorded)) ≤ length (now out) ⌝ }
-    ensures { λ r. ⌜ Stored (now (out .entry)) p (over entries (now (recs .entry)) counts (now (safe .entry)) (now (recorded .entry))) (now (out .exit)) r ⌝ }
+    requires { ⌜ Lent (now records) counts (now positions) (now safe) (now recorded) × Chained (now records) (counts .cells) (now chain) ⌝ }
+    requires { ⌜ p + 3 * length (over entries (now records) counts (now safe) (now recorded)) ≤ length (now out) ⌝ }
+    ensures { λ r. ⌜ Stored (now (out .entry)) p (over entries (now (records .entry)) counts (now (safe .entry)) (now (recorded .entry))) (now (out .exit)) r ⌝ }
 {
     let cells = counts.cells;
     let mut next = p;
     let mut cell: u16 = 0;
     while cell < cells {
-        next = list_cell(recs, counts, at, chain, safe, recorded, cell, out, next);
+        next = list_cell(
+            records,
+            counts,
+            positions,
+            chain,
+            safe,
+            recorded,
+            cell,
+            out,
+            next,
+        );
         cell += 1;
     }
     next
@@ -267,77 +328,66 @@ pub struct Listed {
     pub pairs: usize,
 }
 
-// The same as `list`, with the positions and the chains at hand: counts first, so that nothing is written where there is no room.
-fn list_placed(
-    recs: &[u8],
+// The same as `list`, with the chains at hand: counts first, so that nothing is written where there is no room.
+fn list_chained(
+    records: &[u8],
     counts: Counts,
-    at: &[u16],
-    chain: &[u16; 2048],
+    positions: &[u16],
+    chain: &[u16; CHAINS],
     safe: &[u16],
     recorded: &[u16],
     out: &mut [u16],
 ) -> Listed
-    requires { ⌜ Lent (now recs) counts (now at) (now safe) (now recorded) × Chained (now recs) (counts .cells) (now chain) ⌝ }
-    ensures { λ r. ⌜ Outcome (over entries (now (recs .entry)) counts (now (safe .entry)) (now (recorded .entry))) (now (out .entry)) (now (out .exit)) (r .fits) (r .pairs) ⌝ }
+    requires { ⌜ Lent (now records) counts (now positions) (now safe) (now recorded) × Chained (now records) (counts .cells) (now chain) ⌝ }
+    ensures { λ r. ⌜ WrittenList (over entries (now (records .entry)) counts (now (safe .entry)) (now (recorded .entry))) (now (out .entry)) (now (out .exit)) (r .fits) (r .pairs) ⌝ }
 {
-    let pairs = count(recs, counts, at, chain, safe);
+    let pairs = count(records, counts, positions, chain, safe);
     if out.len() < 3 * pairs {
         return Listed { fits: false, pairs };
     }
-    list_all(recs, counts, at, chain, safe, recorded, out, 0);
+    list_all(records, counts, positions, chain, safe, recorded, out, 0);
     Listed { fits: true, pairs }
 }
 
-// Writes the list of the race pairs, or leaves `out` as it was where they do not fit.
-pub fn list(recs: &[u8], counts: Counts, safe: &[u16], recorded: &[u16], out: &mut [u16]) -> Listed
-    requires { ⌜ Records (now recs) counts × (counts .cells ≤ 1024) × Fitting (now recs) counts (now safe) × Fitting (now recs) counts (now recorded) ⌝ }
-    ensures { λ r. ⌜ Outcome (over entries (now (recs .entry)) counts (now (safe .entry)) (now (recorded .entry))) (now (out .entry)) (now (out .exit)) (r .fits) (r .pairs) ⌝ }
-{
-    let mut at = [0u16; 1024];
-    events::positions(recs, &mut at);
-    let chain = events::gather(recs, 5, 6, counts.cells);
-    list_placed(recs, counts, &at, &chain, safe, recorded, out)
-}
-
-// The same as `relation`, with the positions at hand.
-fn relation_placed(
-    recs: &[u8],
+// Writes the list of the race pairs, or leaves `out` as it was where they do not fit. Each cell's accesses are gathered in a
+// chain first, so that only they are looked at for each other.
+pub fn list(
+    records: &[u8],
     counts: Counts,
-    at: &[u16],
+    positions: &[u16],
     safe: &[u16],
     recorded: &[u16],
-    a: usize,
-    b: usize,
-) -> Relation
-    requires { ⌜ Lent (now recs) counts (now at) (now safe) (now recorded) × Numbered (now recs) a × Numbered (now recs) b ⌝ }
-    ensures { λ r. ⌜ r ≡ over relationBy (now (recs .entry)) counts (now (safe .entry)) (now (recorded .entry)) a b ⌝ }
+    out: &mut [u16],
+) -> Listed
+    requires { ⌜ Lent (now records) counts (now positions) (now safe) (now recorded) ⌝ }
+    ensures { λ r. ⌜ WrittenList (over entries (now (records .entry)) counts (now (safe .entry)) (now (recorded .entry))) (now (out .entry)) (now (out .exit)) (r .fits) (r .pairs) ⌝ }
 {
-    if passes::ordered(recs, counts, at, safe, a, b) {
-        return Relation::First;
-    }
-    if passes::ordered(recs, counts, at, safe, b, a) {
-        return Relation::Second;
-    }
-    if unordered(recs, counts, at, recorded, a, b) {
-        return Relation::Sure;
-    }
-    Relation::Open
+    let chain = events::gather(records, READ, WRITE, counts.cells);
+    list_chained(records, counts, positions, &chain, safe, recorded, out)
 }
 
 // How events a and b stand to each other.
 pub fn relation(
-    recs: &[u8],
+    records: &[u8],
     counts: Counts,
+    positions: &[u16],
     safe: &[u16],
     recorded: &[u16],
     a: usize,
     b: usize,
 ) -> Relation
-    requires { ⌜ Records (now recs) counts × (counts .cells ≤ 1024) × Fitting (now recs) counts (now safe) × Fitting (now recs) counts (now recorded) ⌝ }
-    requires { ⌜ Numbered (now recs) a × Numbered (now recs) b ⌝ }
-    ensures { λ r. ⌜ r ≡ over relationBy (now (recs .entry)) counts (now (safe .entry)) (now (recorded .entry)) a b ⌝ }
+    requires { ⌜ Placed (now records) counts (now positions) × Fitting (now records) counts (now safe) × Fitting (now records) counts (now recorded) ⌝ }
+    requires { ⌜ Numbered (now records) a × Numbered (now records) b ⌝ }
+    ensures { λ r. ⌜ r ≡ over relationBy (now (records .entry)) counts (now (safe .entry)) (now (recorded .entry)) a b ⌝ }
 {
-    let mut at = [0u16; 1024];
-    events::positions(recs, &mut at);
-    relation_placed(recs, counts, &at, safe, recorded, a, b)
+    if passes::ordered(records, counts, positions, safe, a, b) {
+        return Relation::First;
+    }
+    if passes::ordered(records, counts, positions, safe, b, a) {
+        return Relation::Second;
+    }
+    if unordered(records, counts, positions, recorded, a, b) {
+        return Relation::Sure;
+    }
+    Relation::Open
 }

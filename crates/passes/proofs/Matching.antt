@@ -11,8 +11,7 @@ use lib.Seq.{getD-set-same, getD-set-other}
 use Rattle.model.specs.declared.Counts.{Counts}
 use Rattle.model.specs.declared.Found.{Found}
 use Rattle.model.specs.Numbers.{bit, sum, tally, nth}
-use Rattle.model.specs.Recording.{noEvent}
-use Rattle.model.specs.File.{eventsOf, recordingBy}
+use Rattle.model.specs.File.{eventsOf}
 use Rattle.model.specs.Passes.{signalsOn}
 use Rattle.model.proofs.Tests.{cases, tests, fails, first, second, eqb-true}
 use Rattle.events.specs.Chains.{among, head, Chained}
@@ -20,6 +19,7 @@ use Rattle.events.proofs.Laws.{tally-next}
 use Rattle.events.proofs.Chains.{chained-by}
 use Rattle.passes.specs.Matching.{signalAt, waitAt, AtHand, Matching}
 use Rattle.passes.proofs.Searches.{tally-start, nth-here, nth-none}
+use Rattle.model.specs.Recording.{eventIn}
 
 -- a tally does not rise over numbers that fail
 tally-skip : (p : ℕ → Bool) (m b : ℕ) → m ≤ b → ((i : ℕ) → m ≤ i → i < b → p i ≡ false) → tally p b ≡ tally p m
@@ -39,7 +39,7 @@ one-kind k =
 -- before the first event
 pub start : (s : List ℕ) (n : ℕ) (chain : List ℕ) → n ≡ length (eventsOf s) → Chained (among s 1 1) n 64 0 chain → Matching s 0 chain
 start s n chain q d =
-    let c : Chained (signalAt s) (length (eventsOf s)) 64 0 chain = rw q at (chained-by (among s 1 1) (signalAt s) n 64 0 chain (λ x i. ap (λ (b : Bool). b && eqb (getD (eventsOf s) i noEvent .object) x) (one-kind (getD (eventsOf s) i noEvent .kind))) d) in
+    let c : Chained (signalAt s) (length (eventsOf s)) 64 0 chain = rw q at (chained-by (among s 1 1) (signalAt s) n 64 0 chain (λ x i. ap (λ (b : Bool). b && eqb (eventIn (eventsOf s) i .object) x) (one-kind (eventIn (eventsOf s) i .kind))) d) in
     record {
       wide = c .wide;
       heads = λ x l.
@@ -65,7 +65,7 @@ module _ (s : List ℕ) (e : ℕ) (chain : List ℕ) (m : Matching s e chain) wh
   module _ (y : ℕ) (l : y < 64) (t : waitAt s y e ≡ true) (b : ℕ) (h : AtHand s y (tally (waitAt s y) e + 1) b) (g : length (eventsOf s) ≤ 1024) where
     only : (x : ℕ) → (x ≡ y → ⊥) → waitAt s x e ≡ false
     only x d =
-        let v = getD (eventsOf s) e noEvent in
+        let v = eventIn (eventsOf s) e in
         let o = eqb-true (v .object) y (second (eqb (v .kind) 2) (eqb (v .object) y) t) in
         fails (waitAt s x e) (λ u. let z = eqb-true (v .object) x (second (eqb (v .kind) 2) (eqb (v .object) x) u) in d (omega arith))
 
@@ -105,10 +105,10 @@ none-next s y w b l h = record { high = h .high; hit = h .hit; rank = λ k. absu
 
 -- what is at hand is matched
 module _ (s : List ℕ) (c : Counts) (y w b : ℕ) (h : AtHand s y w b) where
-  pub hand-at : b < length (eventsOf s) → Found.At b ≡ nth (signalsOn (recordingBy s c) y) w
+  pub hand-at : b < length (eventsOf s) → Found.At b ≡ nth (signalsOn (eventsOf s) y) w
   unfolding signalsOn
   hand-at l = nth-here (signalAt s y) (length (eventsOf s)) w b l (h .hit l) (h .rank l)
 
-  pub hand-none : length (eventsOf s) ≤ b → Found.Nothing ≡ nth (signalsOn (recordingBy s c) y) w
+  pub hand-none : length (eventsOf s) ≤ b → Found.Nothing ≡ nth (signalsOn (eventsOf s) y) w
   unfolding signalsOn
   hand-none l = let q : b ≡ length (eventsOf s) = omega (arith, h .high) in nth-none (signalAt s y) (length (eventsOf s)) w (rw q at (h .most))

@@ -7,21 +7,14 @@ use native.Mathlib.Omega.{arith}
 use Rattle.model.specs.declared.Event.{Event}
 use Rattle.model.specs.declared.Found.{Found}
 use Rattle.model.specs.Numbers.{sum, tally, picked, lastOf, nth}
-use Rattle.model.specs.Recording.{Recording, event, taskOf, kindOf, objectOf, ofTask}
-use Rattle.model.specs.Passes.{previous, signalsOn}
+use Rattle.model.specs.Recording.{Recording, kindOf, objectOf}
+use Rattle.model.specs.Passes.{signalsOn}
 use Rattle.model.specs.Recorded.{waitsBefore, matched}
 use Rattle.model.proofs.Tests.{eq-eqb, ne-eqb}
 use Rattle.model.proofs.Sum.{rank-rises, rank-same}
 use Rattle.model.proofs.Picked.{nth-of, nth-found}
-use Rattle.model.proofs.Sources.{last-some}
-use Rattle.passes.specs.Lent.{Below, firstFound}
-
-pub last-below : (p : ℕ → Bool) (n : ℕ) → Below n (lastOf p n)
-last-below p n = go (lastOf p n) refl
-  where
-    go : (m : Found) → lastOf p n ≡ m → Below n m
-    go (Found.At x) q = last-some p n x q .inside
-    go Found.Nothing q = tt
+use Rattle.events.specs.Kept.{Below}
+use Rattle.events.proofs.Kept.{last-below}
 
 -- a search by what is known of an event, and where it looked
 pub searched : (P : Event → ℕ → Bool) (v w : Event) (n m : ℕ) (r : Found) → r ≡ lastOf (P v) n → v ≡ w → n ≡ m → r ≡ lastOf (P w) m
@@ -29,15 +22,6 @@ searched P v w n m r q p h = q ∙ ap₂ (λ (u : Event) (k : ℕ). lastOf (P u)
 
 pub found-below : (p : ℕ → Bool) (n m : ℕ) (r : Found) → r ≡ lastOf p n → n ≡ m → Below m r
 found-below p n m r q h = subst (Below m) (sym (q ∙ ap (lastOf p) h)) (last-below p m)
-
--- the event before is found, or it is not
-pub before-at : (E : Recording) (e a : ℕ) (f g : Found) → f ≡ previous E e → f ≡ Found.At a → (Found.At a ≡ firstFound (previous E e) g) × (a < e)
-before-at E e a f g p q =
-    let r : previous E e ≡ Found.At a = sym p ∙ q in
-    (sym (ap (λ (m : Found). firstFound m g) r), last-some (λ b. ofTask (taskOf E e) (event E b)) e a r .inside)
-
-pub before-none : (E : Recording) (e : ℕ) (f g : Found) → f ≡ previous E e → f ≡ Found.Nothing → g ≡ firstFound (previous E e) g
-before-none E e f g p q = sym (ap (λ (m : Found). firstFound m g) (sym p ∙ q))
 
 -- the number of rank k
 pub nth-here : (p : ℕ → Bool) (n k a : ℕ) → a < n → p a ≡ true → tally p a ≡ k → Found.At a ≡ nth (picked p n) k
@@ -59,10 +43,10 @@ unfolding sum
 tally-start p = refl
 
 module _ (E : Recording) (e : ℕ) where
-  pub matched-wait : kindOf E e ≡ 2 → nth (signalsOn E (objectOf E e)) (waitsBefore E e) ≡ matched E e
+  pub matched-wait : kindOf E e ≡ 2 → nth (signalsOn (E .events) (objectOf E e)) (waitsBefore (E .events) e) ≡ matched (E .events) e
   unfolding matched
   matched-wait q = rw (eq-eqb (kindOf E e) 2 q)
 
-  pub matched-other : (kindOf E e ≡ 2 → ⊥) → Found.Nothing ≡ matched E e
+  pub matched-other : (kindOf E e ≡ 2 → ⊥) → Found.Nothing ≡ matched (E .events) e
   unfolding matched
   matched-other d = rw (ne-eqb (kindOf E e) 2 d)

@@ -5,19 +5,15 @@ use mathlib.Core.Path.{_≡_, sym, ap, _∙_}
 use mathlib.Core.List.{List, [], _++_, append-nil}
 use native.Mathlib.Numerals.{add-one}
 use native.Mathlib.Omega.{arith}
-use lib.ListN.{length, getD, drop, length-append, drop-of-length-le, List·getD-append}
+use lib.ListN.{length, length-append, drop-of-length-le}
 use lib.Seq.{sets}
-use Rattle.model.specs.declared.Counts.{Counts}
-use Rattle.model.specs.Numbers.{listFrom, listOf}
+use Rattle.model.specs.Numbers.{listFrom}
 use Rattle.model.specs.Recording.{Recording, size, tasks, taskOf}
 use Rattle.model.specs.Vectors.{position, flat, start}
-use Rattle.model.specs.File.{recordingBy}
-use Rattle.model.proofs.Lists.{listOf-at, listOf-length}
 use Rattle.model.proofs.Climb.{start-shaped}
 use Rattle.vectors.specs.Rows.{ownRow}
 use Rattle.vectors.proofs.Chunks.{own-length, flat-length}
 use Rattle.vectors.proofs.Stores.{sets-append, sets-front}
-use Rattle.passes.specs.Lent.{Records, Placed}
 use Rattle.passes.specs.Steps.{firstRow}
 
 -- the rows of event e and of all that follow
@@ -46,13 +42,13 @@ pub start-length : (E : Recording) → length (flat (start E)) ≡ size E * task
 start-length E = flat-length (size E) (tasks E) (start E) (start-shaped E)
 
 pub row-fits : (E : Recording) (e : ℕ) → e < size E → tasks E ≤ length (rowsFrom E e)
-row-fits E e h = rw (rows-next E e h) (omega (arith, length-append (firstRow E e) (rowsFrom E (e + 1)), own-length (tasks E) (taskOf E e) (position E e)))
+row-fits E e h = rw (rows-next E e h) (omega (arith, length-append (firstRow E e) (rowsFrom E (e + 1)), own-length (tasks E) (taskOf E e) (position (E .events) e)))
 
 -- one row is stored, and the later ones over it are the whole from e on
 pub row-stored : (E : Recording) (e : ℕ) → e < size E → (v v′ : List ℕ) (at : ℕ) → v′ ≡ sets v at (firstRow E e)
     → (sets v′ (at + tasks E) (rowsFrom E (e + 1)) ≡ sets v at (rowsFrom E e)) × (at + tasks E + length (rowsFrom E (e + 1)) ≡ at + length (rowsFrom E e))
 row-stored E e h v v′ at q =
-    let k : length (firstRow E e) ≡ tasks E = own-length (tasks E) (taskOf E e) (position E e) in (
+    let k : length (firstRow E e) ≡ tasks E = own-length (tasks E) (taskOf E e) (position (E .events) e) in (
       rw (rows-next E e h, q) (rw k at (sym (sets-append (firstRow E e) (rowsFrom E (e + 1)) v at))),
       rw (rows-next E e h) (omega (arith, length-append (firstRow E e) (rowsFrom E (e + 1)))),
     )
@@ -63,17 +59,3 @@ start-stored E v h =
     sets-front v (flat (start E)) (size E * tasks E) (start-length E) (omega arith)
     ∙ ap (λ (l : List ℕ). flat (start E) ++ l) (drop-of-length-le v {i = size E * tasks E} (omega arith))
     ∙ append-nil (flat (start E))
-
--- the positions, once they are written over the front of `old`
-pub all-placed : (s : List ℕ) (c : Counts) (at old : List ℕ) (n : ℕ) → Records s c → n ≡ size (recordingBy s c) → n ≤ length at
-    → at ≡ listOf (position (recordingBy s c)) n ++ drop n old → Placed s c at
-all-placed s c at old n r q h p =
-    record {
-      records = r;
-      room = omega arith;
-      placed = λ e k.
-          let l = listOf-length (position (recordingBy s c)) 0 n in
-          ap (λ (u : List ℕ). getD u e 0) p
-          ∙ List·getD-append (listOf (position (recordingBy s c)) n) (drop n old) 0 e (omega arith)
-          ∙ listOf-at (position (recordingBy s c)) 0 n e (omega arith);
-    }

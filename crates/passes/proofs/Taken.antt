@@ -9,16 +9,17 @@ use lib.ListN.{length, getD, set}
 use Rattle.model.specs.declared.Counts.{Counts}
 use Rattle.model.specs.declared.Found.{Found}
 use Rattle.model.specs.Numbers.{found, largest}
-use Rattle.model.specs.Recording.{Recording, size, tasks, taskOf, kindOf, objectOf}
+use Rattle.model.specs.Recording.{Recording, size, tasks, kindOf, objectOf}
 use Rattle.model.specs.Vectors.{Vectors, number}
-use Rattle.model.specs.Passes.{previous, forkOf, lastEvent, orFork, joinSources, sources, gathered, stepOne}
+use Rattle.model.specs.Passes.{forkOf, lastEvent, beforeOrFork, joinSources, sources, gathered, stepOne}
 use Rattle.model.specs.Recorded.{matched, causes}
 use Rattle.model.proofs.Tests.{cases, eqb-true, eqb-false, eq-eqb, ne-eqb}
 use Rattle.model.proofs.Climb.{Shaped}
 use Rattle.vectors.specs.Rows.{chunks, raisedTo}
 use Rattle.vectors.proofs.Chunks.{next-row, same-numbers, chunks-shaped, number-chunks}
 use Rattle.vectors.proofs.Raised.{raisedTo-same, raisedTo-other, raisedTo-shaped, raisedTo-alike, raisedTo-none, chunks-raised}
-use Rattle.passes.specs.Lent.{firstFound, Below, Inside, raisedFound}
+use Rattle.passes.specs.Lent.{Inside, raisedFound}
+use Rattle.events.specs.Kept.{Below}
 use Rattle.passes.specs.Steps.{taken, recordedEvent}
 
 -- numbers that differ only where they are not above y
@@ -118,31 +119,27 @@ pub gathered-taken : (E : Recording) (X : Vectors) (from : List ℕ) (e : ℕ) �
 unfolding gathered taken raisedTo largest
 gathered-taken E X from e = refl
 
-first-found : (f g : Found) → found (firstFound f g) ≡ orFork f g
-first-found (Found.At a) g = refl
-first-found Found.Nothing g = refl
-
 -- step 1: the event before or the fork, then what a join adds
 pub step-one : (E : Recording) (X Y Z : Vectors) (e : ℕ) (f : Found) → Shaped (size E) (tasks E) X → e < size E
-    → f ≡ firstFound (previous E e) (forkOf E (taskOf E e)) → Y ≡ taken (E .counts) X (found f) e
-    → Z ≡ taken (E .counts) Y (joinSources E e (eqb (kindOf E e) 4)) e → Z ≡ stepOne E X e
+    → f ≡ beforeOrFork (E .events) e → Y ≡ taken (E .counts) X (found f) e
+    → Z ≡ taken (E .counts) Y (joinSources (E .events) e (eqb (kindOf E e) 4)) e → Z ≡ stepOne E X e
 unfolding stepOne sources
 step-one E X Y Z e f s h p q r =
     r
-    ∙ ap (λ (W : Vectors). taken (E .counts) W (joinSources E e (eqb (kindOf E e) 4)) e)
-    (q ∙ ap (λ (l : List ℕ). taken (E .counts) X l e) (ap found p ∙ first-found (previous E e) (forkOf E (taskOf E e))))
-    ∙ taken-then (E .counts) X e s h (orFork (previous E e) (forkOf E (taskOf E e))) (joinSources E e (eqb (kindOf E e) 4))
-    ∙ sym (gathered-taken E X (orFork (previous E e) (forkOf E (taskOf E e)) ++ joinSources E e (eqb (kindOf E e) 4)) e)
+    ∙ ap (λ (W : Vectors). taken (E .counts) W (joinSources (E .events) e (eqb (kindOf E e) 4)) e)
+    (q ∙ ap (λ (f : Found). taken (E .counts) X (found f) e) p)
+    ∙ taken-then (E .counts) X e s h (found (beforeOrFork (E .events) e)) (joinSources (E .events) e (eqb (kindOf E e) 4))
+    ∙ sym (gathered-taken E X (found (beforeOrFork (E .events) e) ++ joinSources (E .events) e (eqb (kindOf E e) 4)) e)
 
 -- what a join adds: the fork of its task, then the last event of it
 pub join-other : (E : Recording) (X : Vectors) (e : ℕ) → Shaped (size E) (tasks E) X → e < size E → (kindOf E e ≡ 4 → ⊥)
-    → X ≡ taken (E .counts) X (joinSources E e (eqb (kindOf E e) 4)) e
+    → X ≡ taken (E .counts) X (joinSources (E .events) e (eqb (kindOf E e) 4)) e
 join-other E X e s h d = rw (ne-eqb (kindOf E e) 4 d) (sym (taken-none (E .counts) X e s h))
 
 pub join-taken : (E : Recording) (l k j : List ℕ) (e : ℕ) (f g : Found) → length l ≡ size E * tasks E → length k ≡ size E * tasks E → e < size E
-    → kindOf E e ≡ 4 → f ≡ forkOf E (objectOf E e) → g ≡ lastEvent E (objectOf E e)
+    → kindOf E e ≡ 4 → f ≡ forkOf (E .events) (objectOf E e) → g ≡ lastEvent (E .events) (objectOf E e)
     → k ≡ raisedFound (tasks E) l e f → j ≡ raisedFound (tasks E) k e g
-    → chunks (size E) (tasks E) j ≡ taken (E .counts) (chunks (size E) (tasks E) l) (joinSources E e (eqb (kindOf E e) 4)) e
+    → chunks (size E) (tasks E) j ≡ taken (E .counts) (chunks (size E) (tasks E) l) (joinSources (E .events) e (eqb (kindOf E e) 4)) e
 join-taken E l k j e f g p q h d t u r z =
     let x : chunks (size E) (tasks E) k ≡ taken (E .counts) (chunks (size E) (tasks E) l) (found f) e =
     ap (chunks (size E) (tasks E)) r ∙ taken-found (E .counts) (size E) l e f p h in
@@ -150,10 +147,10 @@ join-taken E l k j e f g p q h d t u r z =
 
 -- the recorded vector: step 1, then the matched signal
 pub record-event : (E : Recording) (X Y Z : Vectors) (e : ℕ) → Shaped (size E) (tasks E) X → e < size E
-    → Y ≡ stepOne E X e → Z ≡ taken (E .counts) Y (found (matched E e)) e → Z ≡ recordedEvent E X e
+    → Y ≡ stepOne E X e → Z ≡ taken (E .counts) Y (found (matched (E .events) e)) e → Z ≡ recordedEvent E X e
 unfolding stepOne recordedEvent
 record-event E X Y Z e s h q r =
     r
-    ∙ ap (λ (W : Vectors). taken (E .counts) W (found (matched E e)) e) (q ∙ gathered-taken E X (sources E e) e)
-    ∙ taken-then (E .counts) X e s h (sources E e) (found (matched E e))
-    ∙ sym (gathered-taken E X (causes E e) e)
+    ∙ ap (λ (W : Vectors). taken (E .counts) W (found (matched (E .events) e)) e) (q ∙ gathered-taken E X (sources (E .events) e) e)
+    ∙ taken-then (E .counts) X e s h (sources (E .events) e) (found (matched (E .events) e))
+    ∙ sym (gathered-taken E X (causes (E .events) e) e)

@@ -7,7 +7,8 @@ use mathlib.Core.List.{List}
 use native.Mathlib.Omega.{arith}
 use lib.Dec.{leb}
 use lib.ListN.{length}
-use Rattle.model.specs.Recording.{Recording, taskOf}
+use Rattle.model.specs.declared.Event.{Event}
+use Rattle.model.specs.Recording.{eventIn}
 use Rattle.model.specs.Vectors.{Vectors, number, position, ordered}
 use Rattle.model.proofs.Tests.{eq-eqb, ne-eqb}
 use Rattle.vectors.proofs.Chunks.{next-row}
@@ -16,12 +17,12 @@ use Rattle.vectors.proofs.Chunks.{next-row}
 pub in-rows : (v : List ℕ) (n m e t : ℕ) → length v ≡ n * m → e < n → t < m → e * m + t < length v
 in-rows v n m e t h p q = omega (arith, next-row e n m p)
 
-module _ (E : Recording) (X : Vectors) (a b : ℕ) where
-  pub ordered-self : a ≡ b → false ≡ ordered E X a b
+module _ (l : List Event) (X : Vectors) (a b : ℕ) where
+  pub ordered-self : a ≡ b → false ≡ ordered l X a b
   unfolding ordered
   ordered-self h = rw (eq-eqb a b h)
 
-  pub ordered-by : (x y : ℕ) → (a ≡ b → ⊥) → x ≡ position E a → y ≡ number X b (taskOf E a) → leb x y ≡ ordered E X a b
+  pub ordered-by : (x y : ℕ) → (a ≡ b → ⊥) → x ≡ position l a → y ≡ number X b (eventIn l a .task) → leb x y ≡ ordered l X a b
   unfolding ordered
   ordered-by x y h p q = rw (p, q, ne-eqb a b h)
 

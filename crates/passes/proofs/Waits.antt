@@ -82,7 +82,7 @@ filter-picked p q (suc n) =
 module _ (E : Recording) (X : Vectors) (e : ℕ) where
   pub candidates-on : candidatesOn E X e (objectOf E e) ≡ candidates E X e
   unfolding candidatesOn candidates signalsOn
-  candidates-on = sym (filter-picked (λ a. isSignal (objectOf E e) (event E a)) (λ s. not (ordered E X e s)) (size E))
+  candidates-on = sym (filter-picked (λ a. isSignal (objectOf E e) (event E a)) (λ s. not (ordered (E .events) X e s)) (size E))
 
   pub candidates-all : (s a : ℕ) → a ≡ size E → picked (candidate E X e s) a ≡ candidatesOn E X e s
   unfolding candidatesOn
@@ -98,7 +98,7 @@ module _ (E : Recording) (X : Vectors) (e : ℕ) where
 
   pub k-tally : (s : ℕ) → kOf E X e s ≡ suc (tally (waitBefore E X e s) (size E))
   unfolding waitsOn
-  k-tally s = ap suc (count-picked (λ a. isWait s (event E a)) (λ w. ordered E X w e) (size E))
+  k-tally s = ap suc (count-picked (λ a. isWait s (event E a)) (λ w. ordered (E .events) X w e) (size E))
 
   -- a wait, and any other event
   pub wait-raised : kindOf E e ≡ 2 → waited E X e (objectOf E e) ≡ stepTwo E X e

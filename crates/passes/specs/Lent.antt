@@ -8,8 +8,9 @@ use Rattle.model.specs.declared.Counts.{Counts}
 use Rattle.model.specs.declared.Found.{Found}
 use Rattle.model.specs.Recording.{size, taskOf, kindOf, objectOf}
 use Rattle.model.specs.File.{eventsOf, recordingBy}
-use Rattle.model.specs.Vectors.{Vectors, position}
+use Rattle.model.specs.Vectors.{Vectors}
 use Rattle.vectors.specs.Rows.{chunks, raisedAt}
+use Rattle.events.specs.Kept.{Positions}
 
 -- lent numbers as one vector for each event
 abbrev pub vectorsIn : List ℕ → Counts → List ℕ → Vectors
@@ -31,21 +32,10 @@ pub record Records (s : List ℕ) (c : Counts) : Type 0 where
   pub named : (e : ℕ) → e < size (recordingBy s c) → taskOf (recordingBy s c) e < c .tasks
   pub waits : (e : ℕ) → e < size (recordingBy s c) → kindOf (recordingBy s c) e ≡ 2 → objectOf (recordingBy s c) e < 64
 
--- and `at` has the positions of their events
-pub record Placed (s : List ℕ) (c : Counts) (at : List ℕ) : Type 0 where
+-- and the positions of their events
+pub record Placed (s : List ℕ) (c : Counts) (positions : List ℕ) : Type 0 where
   pub records : Records s c
-  pub room : size (recordingBy s c) ≤ length at
-  pub placed : (e : ℕ) → e < size (recordingBy s c) → getD at e 0 ≡ position (recordingBy s c) e
-
--- the first that was found
-abbrev pub firstFound : Found → Found → Found
-firstFound (Found.At a) g = Found.At a
-firstFound Found.Nothing g = g
-
--- a found event is below n
-abbrev pub Below : ℕ → Found → Type 0
-Below n (Found.At a) = a < n
-Below n Found.Nothing = Unit {0}
+  pub kept : Positions (eventsOf s) positions
 
 -- the vector of a found event, of m numbers, lies in a list of this length
 abbrev pub Inside : ℕ → ℕ → Found → Type 0

@@ -6,16 +6,16 @@ use mathlib.Core.Bool.{Bool, true}
 use mathlib.Core.List.{List}
 use lib.ListN.{length, getD}
 use Rattle.model.specs.Numbers.{tally}
-use Rattle.model.specs.Recording.{noEvent, isSignal, isWait}
+use Rattle.model.specs.Recording.{isSignal, isWait, eventIn}
 use Rattle.model.specs.File.{eventsOf}
 use Rattle.events.specs.Chains.{Nearest, head}
 
 -- event i of the record bytes s is a signal, or a wait, on semaphore x
 abbrev pub signalAt : List ℕ → ℕ → ℕ → Bool
-signalAt s x i = isSignal x (getD (eventsOf s) i noEvent)
+signalAt s x i = isSignal x (eventIn (eventsOf s) i)
 
 abbrev pub waitAt : List ℕ → ℕ → ℕ → Bool
-waitAt s x i = isWait x (getD (eventsOf s) i noEvent)
+waitAt s x i = isWait x (eventIn (eventsOf s) i)
 
 -- b is the signal on x with w signals on x before it; the number of events where there is none
 pub record AtHand (s : List ℕ) (x w b : ℕ) : Type 0 where

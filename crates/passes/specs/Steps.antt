@@ -14,7 +14,7 @@ use Rattle.vectors.specs.Rows.{raisedTo, ownRow}
 
 -- the starting vector of an event
 abbrev pub firstRow : Recording → ℕ → List ℕ
-firstRow E e = ownRow (tasks E) (taskOf E e) (position E e)
+firstRow E e = ownRow (tasks E) (taskOf E e) (position (E .events) e)
 
 -- e has taken the largest, number by number, of its own vector and of those of these events
 unfoldable pub taken : Counts → Vectors → List ℕ → ℕ → Vectors
@@ -22,11 +22,11 @@ taken c X from e = raisedTo (c .tasks) X e (λ t. largest (λ s. number X s t) f
 
 -- a wait w on s that is ordered before e
 abbrev pub waitBefore : Recording → Vectors → ℕ → ℕ → ℕ → Bool
-waitBefore E X e s w = isWait s (event E w) && ordered E X w e
+waitBefore E X e s w = isWait s (event E w) && ordered (E .events) X w e
 
 -- a signal a on s that e is not ordered before
 abbrev pub candidate : Recording → Vectors → ℕ → ℕ → ℕ → Bool
-candidate E X e s a = isSignal s (event E a) && not (ordered E X e a)
+candidate E X e s a = isSignal s (event E a) && not (ordered (E .events) X e a)
 
 unfoldable pub candidatesOn : Recording → Vectors → ℕ → ℕ → List ℕ
 candidatesOn E X e s = picked (candidate E X e s) (size E)
@@ -45,4 +45,4 @@ raisedEvent E X e = set X e (raised E X e)
 
 -- the recorded vector of e
 unfoldable pub recordedEvent : Recording → Vectors → ℕ → Vectors
-recordedEvent E X e = set X e (gathered E X (causes E e) e)
+recordedEvent E X e = set X e (gathered E X (causes (E .events) e) e)

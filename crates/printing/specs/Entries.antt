@@ -3,13 +3,13 @@
 use Prim.Native.Nat.{ℕ, _+_, _*_}
 use mathlib.Core.List.{List}
 use lib.ListN.{getD}
-use Rattle.model.specs.Recording.{noEvent}
 use Rattle.model.specs.File.{eventsOf}
 use Rattle.model.specs.Report.{entryLine}
+use Rattle.model.specs.Recording.{eventIn}
 
 -- the object of event e
 abbrev pub objectIn : List ℕ → ℕ → ℕ
-objectIn s e = getD (eventsOf s) e noEvent .object
+objectIn s e = eventIn (eventsOf s) e .object
 
 -- the line of entry i
 unfoldable pub nthLine : List ℕ → List ℕ → ℕ → List ℕ

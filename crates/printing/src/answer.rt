@@ -1,7 +1,5 @@
 // The report of an answer.
-ghost use Prim.Native.Nat.{_≤_};
 ghost use mathlib.Core.Path.{_≡_};
-ghost use lib.ListN.{length};
 ghost use Rattle.model.specs.Reading.{readingOf};
 ghost use Rattle.printing.specs.Output.{Put};
 ghost use Rattle.printing.specs.Answer.{budgetIn, tasksIn, Holds, answerText};

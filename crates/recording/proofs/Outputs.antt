@@ -16,7 +16,7 @@ use Rattle.model.specs.Refusals.{unless}
 use Rattle.model.specs.Recording.{firstFault}
 use Rattle.model.specs.File.{recordingBy}
 use Rattle.model.specs.Reading.{inRange}
-use Rattle.model.specs.Writing.{trailerBytes, fileOf, recordsCheck, writingCheck, writtenOf, outAfter}
+use Rattle.model.specs.Writing.{trailerBytes, fileOf, recordsCheck, writingCheck, writtenOf, outAfterWriting}
 use Rattle.model.proofs.Checks.{unless-passed, then-passed}
 use Rattle.model.proofs.Files.{events-length}
 
@@ -61,8 +61,8 @@ module _ (s : List ℕ) (c : Counts) where
       unfolding writtenOf
       written = rw p
 
-      pub filled : (last : List ℕ) → last ≡ fileOf s c ++ drop (length s + 16) out → last ≡ outAfter s c out
-      unfolding outAfter
+      pub filled : (last : List ℕ) → last ≡ fileOf s c ++ drop (length s + 16) out → last ≡ outAfterWriting s c out
+      unfolding outAfterWriting
       filled last q = rw p q
 
     -- where one fails, its refusal is answered, and the output stays
@@ -71,8 +71,8 @@ module _ (s : List ℕ) (c : Counts) where
       unfolding writtenOf
       refused = rw p
 
-      pub kept : out ≡ outAfter s c out
-      unfolding outAfter
+      pub kept : out ≡ outAfterWriting s c out
+      unfolding outAfterWriting
       kept = rw p
 
 -- ---- the two copies: the records at the front, and the trailer behind them

@@ -1,5 +1,5 @@
 // Reading and writing recording files.
-pub mod reading; // reading.rt: a file's header or refusal, and its parts
+pub mod reading; // reading.rt: a file's trailer or refusal, and its parts
 pub mod writing; // writing.rt: a file from record bytes and counts
 
 pub use reading::preamble;

@@ -1,14 +1,14 @@
-// Reading a file: its header, or its refusal, and the parts of it.
+// Reading a file: its trailer, or its refusal, and the parts of it.
 ghost use mathlib.Core.Path.{_≡_};
 ghost use Prim.Native.Nat.{_+_, _≤_, _<_};
 ghost use lib.ListN.{length};
-ghost use Rattle.model.specs.File.{u32At, headerOf};
+ghost use Rattle.model.specs.File.{u32At, trailerOf};
 ghost use Rattle.model.specs.Reading.{readingOf, preambleOf, recordsOf};
 use model::Check;
 use model::Counts;
-use model::Header;
 use model::Reading;
 use model::Refusal;
+use model::Trailer;
 use rules::first_fault;
 use rules::in_range;
 
@@ -20,12 +20,12 @@ fn u32_at(s: &[u8], i: usize) -> usize
     (events::u16_at(s, i) as usize) + 65536 * (events::u16_at(s, i + 2) as usize)
 }
 
-fn header_of(file: &[u8]) -> Header
+fn trailer_of(file: &[u8]) -> Trailer
     requires { ⌜ 16 ≤ length (now file) ⌝ }
-    ensures { λ r. ⌜ (r ≡ headerOf (now (file .entry))) × (r .start < 4294967296) × (r .records < 4294967296) ⌝ }
+    ensures { λ r. ⌜ (r ≡ trailerOf (now (file .entry))) × (r .start < 4294967296) × (r .records < 4294967296) ⌝ }
 {
     let t = file.len() - 16;
-    Header {
+    Trailer {
         start: u32_at(file, t),
         records: u32_at(file, t + 4),
         counts: Counts {
@@ -36,7 +36,7 @@ fn header_of(file: &[u8]) -> Header
     }
 }
 
-// Reads a file: its header, or the first refusal of the table.
+// Reads a file: its trailer, or the first refusal of the table.
 pub fn read(file: &[u8]) -> Reading
     ensures { λ r. ⌜ r ≡ readingOf (now (file .entry)) ⌝ }
 {
@@ -47,7 +47,7 @@ pub fn read(file: &[u8]) -> Reading
     if events::u16_at(file, t + 14) != 1 {
         return Reading::Refused(Refusal::Edition);
     }
-    let h = header_of(file);
+    let h = trailer_of(file);
     if h.start + 4 * h.records != t {
         return Reading::Refused(Refusal::Extent);
     }

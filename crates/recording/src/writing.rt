@@ -3,7 +3,7 @@ ghost use mathlib.Core.Path.{_≡_};
 ghost use mathlib.Core.List.{_++_};
 ghost use Prim.Native.Nat.{_+_, _≤_};
 ghost use lib.ListN.{length, take, drop};
-ghost use Rattle.model.specs.Writing.{trailerBytes, fileOf, recordsCheck, writingCheck, writtenOf, outAfter};
+ghost use Rattle.model.specs.Writing.{trailerBytes, fileOf, recordsCheck, writingCheck, writtenOf, outAfterWriting};
 use model::Check;
 use model::Counts;
 use model::Refusal;
@@ -40,7 +40,7 @@ fn writing_check(records: &[u8], counts: Counts, out: &[u8]) -> Check
 }
 
 // The trailer of a file with start 0, n records, these counts and edition 1.
-fn trailer(n: usize, counts: Counts) -> [u8; 16]
+fn trailer_bytes(n: usize, counts: Counts) -> [u8; 16]
     ensures { λ r. ⌜ r ≡ trailerBytes n counts ⌝ }
 {
     let low = n % 65536;
@@ -84,7 +84,7 @@ fn put_file(records: &[u8], counts: Counts, out: &mut [u8])
 {
     let n = records.len();
     copy_at(records, out, 0);
-    let end = trailer(n / 4, counts);
+    let end = trailer_bytes(n / 4, counts);
     copy_at(&end, out, n);
 }
 
@@ -92,7 +92,7 @@ fn put_file(records: &[u8], counts: Counts, out: &mut [u8])
 // refusal all of the output, stays.
 pub fn write(records: &[u8], tasks: u16, semaphores: u16, cells: u16, out: &mut [u8]) -> Written
     ensures { λ r. ⌜ r ≡ writtenOf (now (records .entry)) (record { tasks = tasks; semaphores = semaphores; cells = cells }) (now (out .entry)) ⌝ }
-    ensures { λ _. ⌜ now (out .exit) ≡ outAfter (now (records .entry)) (record { tasks = tasks; semaphores = semaphores; cells = cells }) (now (out .entry)) ⌝ }
+    ensures { λ _. ⌜ now (out .exit) ≡ outAfterWriting (now (records .entry)) (record { tasks = tasks; semaphores = semaphores; cells = cells }) (now (out .entry)) ⌝ }
 {
     let counts = Counts {
         tasks,

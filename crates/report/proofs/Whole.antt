@@ -9,18 +9,18 @@ use Rattle.model.specs.declared.Check.{Check}
 use Rattle.model.specs.declared.Refusal.{Refusal}
 use Rattle.model.specs.declared.Analysis.{Analysis}
 use Rattle.model.specs.Recording.{size, tasks}
-use Rattle.model.specs.File.{headerOf, recordBytes, recordingOf}
+use Rattle.model.specs.File.{trailerOf, recordBytes, recordingOf}
 use Rattle.model.specs.Reading.{fileCheck, readingOf, recordsOf}
 use Rattle.model.specs.Passes.{run}
 use Rattle.model.specs.Pairs.{Entry, listed, entryNumbers}
-use Rattle.model.specs.Analysing.{workCheck, analysisCheck, analysisOf, workAfter, listAfter}
+use Rattle.model.specs.Analysing.{workCheck, analysisCheck, analysisOf, workAfterAnalysing, listAfterAnalysing}
 use Rattle.model.proofs.Tests.{leb-true, le-leb, lt-ltb, le-ltb}
 use Rattle.model.proofs.Checks.{unless-passed, then-passed}
 use Rattle.model.proofs.Files.{sound, events-length, size-records}
 use Rattle.model.specs.Text.{bytes}
 use Rattle.model.specs.Report.{laid, filling}
 use Rattle.printing.specs.Output.{Put}
-use Rattle.model.specs.Report.{resultLine, resultText, budgetOf, reportBy, isLong, reportOf, reportedWork, reportedList}
+use Rattle.model.specs.Report.{resultLine, resultText, budgetOf, reportBy, isLong, reportOf, workAfterReporting, listAfterReporting}
 use Rattle.printing.specs.Answer.{budgetIn, tasksIn, Holds, answerText}
 use Rattle.printing.proofs.Putting.{put-laid}
 use Rattle.printing.proofs.Listing.{each-entry}
@@ -33,13 +33,13 @@ numbers-length (p ∷ l) = let e = numbers-length l in omega arith
 module _ (f : List ℕ) where
   -- ---- an accepted file: its records, events and tasks
 
-  the-records : fileCheck f ≡ Check.Passed → recordsOf f ≡ recordBytes f (headerOf f)
+  the-records : fileCheck f ≡ Check.Passed → recordsOf f ≡ recordBytes f (trailerOf f)
   unfolding recordsOf
   the-records q = rw q
 
   the-events : fileCheck f ≡ Check.Passed → length (recordsOf f) / 4 ≡ size (recordingOf f)
   unfolding recordingOf
-  the-events q = rw (the-records q) (sym (events-length (recordBytes f (headerOf f))))
+  the-events q = rw (the-records q) (sym (events-length (recordBytes f (trailerOf f))))
 
   the-tasks : fileCheck f ≡ Check.Passed → tasksIn (readingOf f) ≡ tasks (recordingOf f)
   unfolding readingOf recordingOf
@@ -63,13 +63,13 @@ module _ (f : List ℕ) where
   unfolding analysisOf analysisCheck workCheck
   same-answer work list = alike (λ b. analysisOf f b work list) (fileCheck f) refl (λ r q. rw q)
 
-  pub same-work : (work : List ℕ) → workAfter f (budgetIn (recordsOf f)) work ≡ workAfter f (budgetOf (recordingOf f)) work
-  unfolding workAfter workCheck
-  same-work work = alike (λ b. workAfter f b work) (fileCheck f) refl (λ r q. rw q)
+  pub same-work : (work : List ℕ) → workAfterAnalysing f (budgetIn (recordsOf f)) work ≡ workAfterAnalysing f (budgetOf (recordingOf f)) work
+  unfolding workAfterAnalysing workCheck
+  same-work work = alike (λ b. workAfterAnalysing f b work) (fileCheck f) refl (λ r q. rw q)
 
-  pub same-list : (work list : List ℕ) → listAfter f (budgetIn (recordsOf f)) work list ≡ listAfter f (budgetOf (recordingOf f)) work list
-  unfolding listAfter analysisCheck workCheck
-  same-list work list = alike (λ b. listAfter f b work list) (fileCheck f) refl (λ r q. rw q)
+  pub same-list : (work list : List ℕ) → listAfterAnalysing f (budgetIn (recordsOf f)) work list ≡ listAfterAnalysing f (budgetOf (recordingOf f)) work list
+  unfolding listAfterAnalysing analysisCheck workCheck
+  same-list work list = alike (λ b. listAfterAnalysing f b work list) (fileCheck f) refl (λ r q. rw q)
 
   -- ---- the answer
 
@@ -82,22 +82,22 @@ module _ (f : List ℕ) where
         let (fits, y) = unless-passed _ _ _ l in
         (p, leb-true _ _ fits)
 
-    pub held : (c : Check) → analysisCheck f b work list ≡ c → Holds (analysisOf f b work list) (listAfter f b work list)
-    unfolding analysisOf listAfter
+    pub held : (c : Check) → analysisCheck f b work list ≡ c → Holds (analysisOf f b work list) (listAfterAnalysing f b work list)
+    unfolding analysisOf listAfterAnalysing
     held Check.Passed q =
         let l = listed (recordingOf f) b in
         rw q (omega (arith, length-append (entryNumbers l) (drop (3 * length l) list), numbers-length l))
     held (Check.Failed r) q = rw q tt
 
     pub the-answer : (c : Check) → analysisCheck f b work list ≡ c
-        → answerText (recordsOf f) (tasksIn (readingOf f)) (analysisOf f b work list) (listAfter f b work list) ≡ reportBy (recordingOf f) b c
-    unfolding answerText analysisOf listAfter resultText recordingOf
+        → answerText (recordsOf f) (tasksIn (readingOf f)) (analysisOf f b work list) (listAfterAnalysing f b work list) ≡ reportBy (recordingOf f) b c
+    unfolding answerText analysisOf listAfterAnalysing resultText recordingOf
     the-answer Check.Passed q =
         let p = passed q .0 in
         let E = recordingOf f in
         let l = listed E b in
         rw (q, the-events p, the-tasks p, the-records p)
-        (ap (λ (x : List ℕ). resultLine (size E) (tasks E) (run E b .passes) (run E b .settled) (length l) ++ x) (each-entry (recordBytes f (headerOf f)) (headerOf f .counts) l (drop (3 * length l) list)))
+        (ap (λ (x : List ℕ). resultLine (size E) (tasks E) (run E b .passes) (run E b .settled) (length l) ++ x) (each-entry (recordBytes f (trailerOf f)) (trailerOf f .counts) l (drop (3 * length l) list)))
     the-answer (Check.Failed r) q = rw q
 
 -- ---- what the program prints, and what it leaves
@@ -105,10 +105,10 @@ module _ (f : List ℕ) where
 -- the four parts of the contract
 abbrev pub Printed : (f work list out work′ list′ out′ : List ℕ) (r : ℕ) → Type 0
 Printed f work list out work′ list′ out′ r =
-    (r ≡ filling (reportOf f work list) out) × ((out′ ≡ laid (reportOf f work list) out) × ((work′ ≡ reportedWork f work) × (list′ ≡ reportedList f work list)))
+    (r ≡ filling (reportOf f work list) out) × ((out′ ≡ laid (reportOf f work list) out) × ((work′ ≡ workAfterReporting f work) × (list′ ≡ listAfterReporting f work list)))
 
 pub long-printed : (f work list out out′ : List ℕ) (r : ℕ) → 16384 < length f → Put out out′ 0 (bytes "too long\n") r → Printed f work list out work list out′ r
-unfolding isLong reportOf reportedWork reportedList
+unfolding isLong reportOf workAfterReporting listAfterReporting
 long-printed f work list out out′ r h p =
     let (o, n) = put-laid out out′ (bytes "too long\n") r p in rw (lt-ltb 16384 (length f) h) (n, (o, (refl, refl)))
 
@@ -118,8 +118,8 @@ pub record Called (f work list s : List ℕ) (b t : ℕ) (a : Analysis) (work′
   pub budget : b ≡ budgetIn s
   pub tasks : t ≡ tasksIn (readingOf f)
   pub answer : a ≡ analysisOf f b work list
-  pub work-left : work′ ≡ workAfter f b work
-  pub list-left : list′ ≡ listAfter f b work list
+  pub work-left : work′ ≡ workAfterAnalysing f b work
+  pub list-left : list′ ≡ listAfterAnalysing f b work list
 
 module _ (f work list s : List ℕ) (b t : ℕ) (a : Analysis) (work′ list′ : List ℕ) (c : Called f work list s b t a work′ list′) where
   the-call : b ≡ budgetIn (recordsOf f)
@@ -134,7 +134,7 @@ module _ (f work list s : List ℕ) (b t : ℕ) (a : Analysis) (work′ list′ 
       (the-answer f (budgetOf (recordingOf f)) work list (analysisCheck f (budgetOf (recordingOf f)) work list) refl)
 
   pub short-printed : (out out′ : List ℕ) (r : ℕ) → length f ≤ 16384 → Put out out′ 0 (answerText s t a list′) r → Printed f work list out work′ list′ out′ r
-  unfolding isLong reportOf reportedWork reportedList
+  unfolding isLong reportOf workAfterReporting listAfterReporting
   short-printed out out′ r h p =
       let (o, n) = put-laid out out′ (answerText s t a list′) r p in
       rw (le-ltb 16384 (length f) h, sym the-text)

@@ -7,13 +7,13 @@ use native.Mathlib.Nat.{add-zero, add-suc}
 use native.Mathlib.Numerals.{add-one}
 use native.Mathlib.Omega.{arith}
 use borrow.Author.Tests.{not-true, not-false}
-use lib.ListN.{length, getD, take}
+use lib.ListN.{length, take}
 use lib.Seq.{length-take-le, take-suc}
 use Rattle.model.specs.declared.Event.{Event}
 use Rattle.model.specs.declared.Refusal.{Refusal}
 use Rattle.model.specs.declared.Check.{Check}
 use Rattle.model.specs.Refusals.{andThen}
-use Rattle.model.specs.Recording.{Recording, noEvent, event, recordCheck, firstFault}
+use Rattle.model.specs.Recording.{Recording, noEvent, event, recordCheck, firstFault, eventIn}
 use Rattle.model.specs.File.{eventsOf}
 use Rattle.model.proofs.Files.{events-length}
 
@@ -29,7 +29,7 @@ pub before-length : (s : List ℕ) (n : ℕ) → 4 * n ≤ length s → length (
 before-length s n h = let l = events-length s in length-take-le n (eventsOf s) (omega arith)
 
 -- and with the next one, v, one more
-pub before-next : (s : List ℕ) (n : ℕ) (v : Event) → 4 * n + 3 < length s → v ≡ getD (eventsOf s) n noEvent → take (n + 1) (eventsOf s) ≡ take n (eventsOf s) ++ v ∷ []
+pub before-next : (s : List ℕ) (n : ℕ) (v : Event) → 4 * n + 3 < length s → v ≡ eventIn (eventsOf s) n → take (n + 1) (eventsOf s) ≡ take n (eventsOf s) ++ v ∷ []
 before-next s n v h q = let l = events-length s in rw (add-one n, q) (take-suc (eventsOf s) n noEvent (omega arith))
 
 fault-suc : (E : Recording) (n : ℕ) → firstFault E (suc n) ≡ andThen (firstFault E n) λ _. recordCheck (E .counts) (take n (E .events)) (event E n)

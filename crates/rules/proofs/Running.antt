@@ -4,20 +4,20 @@ use mathlib.Core.Bool.{Bool, true, false, _&&_}
 use mathlib.Core.List.{List, [], _∷_, _++_}
 use Prim.Native.Nat.{ℕ, zero, suc, _+_, _≤_, _<_}
 use native.Mathlib.Omega.{arith}
-use lib.Dec.{eqb, ltb}
+use lib.Dec.{eqb, ltb, leb}
 use lib.ListN.{length, getD, replicate, length-set, length-replicate, getD-replicate}
 use Rattle.model.specs.declared.Event.{Event}
 use Rattle.model.specs.declared.Counts.{Counts}
 use Rattle.model.specs.declared.Check.{Check}
 use Rattle.model.specs.Numbers.{bit, count}
-use Rattle.model.specs.Recording.{ofTask, isOn, classOf, namesOf, knownKind, named, recordCheck}
+use Rattle.model.specs.Recording.{join, ofTask, isOn, classOf, namesOf, knownKind, named, recordCheck}
 use Rattle.model.specs.Reading.{inRange}
 use Rattle.model.proofs.Tests.{cases, tests, first, second}
 use Rattle.model.proofs.Checks.{failed-passed}
 use Rattle.model.proofs.Files.{in-range}
 use Rattle.model.proofs.Counting.{count-append, count-length}
 use Rattle.events.proofs.Running.{more-at}
-use Rattle.rules.specs.Running.{Few, Small, place, Running, Room, notedOn, notedOwn}
+use Rattle.rules.specs.Running.{places, Few, Small, place, Running, Room, notedOn, notedOwn}
 
 -- before the first event
 pub start : Running [] (replicate 320 0) (replicate 64 0)
@@ -30,8 +30,8 @@ start =
       owned = λ t h. getD-replicate 64 t 0 0 h;
     }
 
--- objects below 64 have places of their own
-place-same : (k x l y : ℕ) → x < 64 → y < 64 → eqb (place k x) (place l y) ≡ (eqb k l && eqb x y)
+-- objects of one kind have places of their own
+place-same : (k x l y : ℕ) → x < places → y < places → eqb (place k x) (place l y) ≡ (eqb k l && eqb x y)
 place-same k x l y a b =
     cases (eqb k l) (λ t. rw t (cases (eqb x y) (λ u. rw u (omega tests)) (λ u. rw u (omega tests)))) (λ t. rw t (omega tests))
 
@@ -41,12 +41,12 @@ count-last p before v = count-append p before (v ∷ []) ∙ omega arith
 
 -- one event more, which has its places
 module _ (before : List Event) (on own : List ℕ) (v : Event) (r : Running before on own) (s : Small v) where
-  counted-next : (k x : ℕ) → k < 5 → x < 64 → getD (notedOn on v) (place k x) 0 ≡ count (isOn k x) (before ++ v ∷ [])
+  counted-next : (k x : ℕ) → k ≤ join → x < places → getD (notedOn on v) (place k x) 0 ≡ count (isOn k x) (before ++ v ∷ [])
   unfolding notedOn
   counted-next k x a b =
       let m = count-last (isOn k x) before v in
-      cases (ltb (v .kind) 5)
-      (λ t. let o : v .object < 64 = s .object (omega tests) in let q = ap bit (place-same (v .kind) (v .object) k x o b) in
+      cases (leb (v .kind) join)
+      (λ t. let o : v .object < places = s .object (omega tests) in let q = ap bit (place-same (v .kind) (v .object) k x o b) in
       rw t (omega (arith, more-at on (place (v .kind) (v .object)) (place k x) (omega (tests, r .wide)), r .counted k x a b)))
       (λ t.
       let z : eqb (v .kind) k ≡ false = omega tests in
@@ -57,7 +57,7 @@ module _ (before : List Event) (on own : List ℕ) (v : Event) (r : Running befo
   unfolding notedOn notedOwn
   next =
       record {
-        wide = cases (ltb (v .kind) 5) (λ t. rw t (length-set on (place (v .kind) (v .object)) _ ∙ r .wide)) (λ t. rw t (r .wide));
+        wide = cases (leb (v .kind) join) (λ t. rw t (length-set on (place (v .kind) (v .object)) _ ∙ r .wide)) (λ t. rw t (r .wide));
         tall = length-set own (v .task) _ ∙ r .tall;
         counted = counted-next;
         owned = λ t h. omega (arith, more-at own (v .task) t (omega (arith, s .task, r .tall)), r .owned t h, count-last (ofTask t) before v);
@@ -76,7 +76,7 @@ pub few : (c : Counts) (n : ℕ) → inRange c n ≡ true → Few c
 few c n h = let r = in-range c n h in record { tasks = omega arith; semaphores = r .few-semaphores }
 
 -- an event whose names are known has its places
-few-names : (c : Counts) (k : ℕ) → k < 5 → Few c → namesOf c (classOf k) ≤ 64
+few-names : (c : Counts) (k : ℕ) → k ≤ join → Few c → namesOf c (classOf k) ≤ places
 unfolding classOf
 few-names c zero h f = omega arith
 few-names c (suc zero) h f = f .semaphores

@@ -4,43 +4,48 @@ use Prim.Native.Nat.{ℕ, _+_, _*_, _≤_, _<_}
 use mathlib.Core.Path.{_≡_}
 use mathlib.Core.Bool.{cond}
 use mathlib.Core.List.{List}
-use lib.Dec.{ltb}
+use lib.Dec.{leb}
 use lib.ListN.{length, getD}
 use Rattle.model.specs.declared.Event.{Event}
 use Rattle.model.specs.declared.Counts.{Counts}
 use Rattle.model.specs.Numbers.{count}
-use Rattle.model.specs.Recording.{ofTask, isOn}
+use Rattle.model.specs.Recording.{join, ofTask, isOn}
+use Rattle.model.specs.Reading.{mostSemaphores}
 use Rattle.events.specs.Running.{more}
 
--- tasks and semaphores are as few as the counts have places
+-- places for the counts of a kind: as many as a recording has semaphores, which are more than its tasks
+abbrev pub places : ℕ
+places = mostSemaphores
+
+-- tasks and semaphores are as few as there are places
 pub record Few (c : Counts) : Type 0 where
-  pub tasks : c .tasks ≤ 64
-  pub semaphores : c .semaphores ≤ 64
+  pub tasks : c .tasks ≤ places
+  pub semaphores : c .semaphores ≤ places
 
 -- an event whose task, and whose object where it names a semaphore or a task, has a place in the counts
 pub record Small (v : Event) : Type 0 where
-  pub task : v .task < 64
-  pub object : v .kind < 5 → v .object < 64
+  pub task : v .task < places
+  pub object : v .kind ≤ join → v .object < places
 
--- the place of an object among the counts of a kind: signals, waits, forks and joins, 64 objects each
+-- the place of an object among the counts of a kind: signals, waits, forks and joins, one after another
 abbrev pub place : ℕ → ℕ → ℕ
-place k x = 64 * k + x
+place k x = places * k + x
 
 -- the running state after the events `before`: `on` counts them by kind and object, and `own` by task
 pub record Running (before : List Event) (on own : List ℕ) : Type 0 where
-  pub wide : length on ≡ 320
-  pub tall : length own ≡ 64
-  pub counted : (k x : ℕ) → k < 5 → x < 64 → getD on (place k x) 0 ≡ count (isOn k x) before
-  pub owned : (t : ℕ) → t < 64 → getD own t 0 ≡ count (ofTask t) before
+  pub wide : length on ≡ 5 * places
+  pub tall : length own ≡ places
+  pub counted : (k x : ℕ) → k ≤ join → x < places → getD on (place k x) 0 ≡ count (isOn k x) before
+  pub owned : (t : ℕ) → t < places → getD own t 0 ≡ count (ofTask t) before
 
 -- the counts of an event can go up by one
 pub record Room (on own : List ℕ) (v : Event) : Type 0 where
-  pub kind : v .kind < 5 → getD on (place (v .kind) (v .object)) 0 < 65535
+  pub kind : v .kind ≤ join → getD on (place (v .kind) (v .object)) 0 < 65535
   pub task : getD own (v .task) 0 < 65535
 
 -- the counts after one event more
 unfoldable pub notedOn : List ℕ → Event → List ℕ
-notedOn on v = cond (ltb (v .kind) 5) (more on (place (v .kind) (v .object))) on
+notedOn on v = cond (leb (v .kind) join) (more on (place (v .kind) (v .object))) on
 
 unfoldable pub notedOwn : List ℕ → Event → List ℕ
 notedOwn own v = more own (v .task)

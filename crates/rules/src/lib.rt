@@ -7,6 +7,7 @@ ghost use lib.ListN.{length};
 ghost use Rattle.model.specs.declared.Event.{Event};
 ghost use Rattle.model.specs.Numbers.{count};
 ghost use Rattle.model.specs.Recording.{
+  join,
   ofTask,
   isOn,
   classOf,
@@ -22,20 +23,27 @@ ghost use Rattle.model.specs.Recording.{
 };
 ghost use Rattle.model.specs.File.{recordingBy};
 ghost use Rattle.model.specs.Reading.{inRange};
-ghost use Rattle.rules.specs.Running.{Few, Small, Running, Room, notedOn, notedOwn};
+ghost use Rattle.rules.specs.Running.{places, Few, Small, Running, Room, notedOn, notedOwn};
 use model::Check;
 use model::Class;
 use model::Counts;
 use model::Event;
+use model::FORK;
+use model::JOIN;
+use model::MOST_CELLS;
+use model::MOST_EVENTS;
+use model::MOST_SEMAPHORES;
+use model::MOST_TASKS;
 use model::Refusal;
+use model::SIGNAL;
+use model::WAIT;
+use model::WRITE;
 
-const SIGNAL: u8 = 1;
+// The running counts have places for as many objects of a kind as there are semaphores, which are more than tasks.
+const PLACES: usize = 64;
 
-const WAIT: u8 = 2;
-
-const FORK: u8 = 3;
-
-const JOIN: u8 = 4;
+// The kinds that are counted by object, signals, waits, forks and joins, and the unused 0.
+const COUNTED: usize = 320;
 
 // What the object of each kind names.
 const CLASS: [Class; 7] = [
@@ -51,7 +59,7 @@ const CLASS: [Class; 7] = [
 fn class_of(kind: u8) -> Class
     ensures { λ r. ⌜ r ≡ classOf kind ⌝ }
 {
-    if kind < 7 {
+    if kind <= WRITE {
         let k = kind as usize;
         CLASS[k]
     } else {
@@ -78,23 +86,23 @@ pub fn in_range(counts: Counts, n: usize) -> bool
     if counts.tasks < 1 {
         return false;
     }
-    if 16 < counts.tasks {
+    if MOST_TASKS < counts.tasks {
         return false;
     }
-    if 64 < counts.semaphores {
+    if MOST_SEMAPHORES < counts.semaphores {
         return false;
     }
-    if 1024 < counts.cells {
+    if MOST_CELLS < counts.cells {
         return false;
     }
-    n <= 1024
+    n <= MOST_EVENTS
 }
 
 fn known_kind(v: Event) -> bool
     ensures { λ r. ⌜ r ≡ knownKind v ⌝ }
 {
-    if 0 < v.kind {
-        return v.kind < 7;
+    if SIGNAL <= v.kind {
+        return v.kind <= WRITE;
     }
     false
 }
@@ -110,23 +118,23 @@ fn is_named(counts: Counts, v: Event) -> bool
 }
 
 // How many events of this kind on this object there have been.
-fn count_on(on: &[u16; 320], kind: u8, object: u16) -> u16
-    requires { ⌜ (kind < 5) × (object < 64) ⌝ }
+fn count_on(on: &[u16; COUNTED], kind: u8, object: u16) -> u16
+    requires { ⌜ (kind ≤ join) × (object < places) ⌝ }
     ensures { λ r. ⌜ ((before : List Event) (own : List ℕ) → Running before (now (on .entry)) own → r ≡ count (isOn kind object) before) ⌝ }
 {
-    on[64 * (kind as usize) + (object as usize)]
+    on[PLACES * (kind as usize) + (object as usize)]
 }
 
 // How many events of this task there have been.
-fn count_own(own: &[u16; 64], task: u16) -> u16
-    requires { ⌜ task < 64 ⌝ }
+fn count_own(own: &[u16; PLACES], task: u16) -> u16
+    requires { ⌜ task < places ⌝ }
     ensures { λ r. ⌜ ((before : List Event) (on : List ℕ) → Running before on (now (own .entry)) → r ≡ count (ofTask task) before) ⌝ }
 {
     own[task as usize]
 }
 
 // Whether the event keeps the rule on forks.
-fn fork_kept(on: &[u16; 320], own: &[u16; 64], v: Event) -> bool
+fn fork_kept(on: &[u16; COUNTED], own: &[u16; PLACES], v: Event) -> bool
     requires { ⌜ Small v ⌝ }
     ensures { λ r. ⌜ ((before : List Event) → Running before (now (on .entry)) (now (own .entry)) → r ≡ forkKept before v) ⌝ }
 {
@@ -143,7 +151,7 @@ fn fork_kept(on: &[u16; 320], own: &[u16; 64], v: Event) -> bool
 }
 
 // The same for the rule on joins.
-fn join_kept(on: &[u16; 320], v: Event) -> bool
+fn join_kept(on: &[u16; COUNTED], v: Event) -> bool
     requires { ⌜ Small v ⌝ }
     ensures { λ r. ⌜ ((before : List Event) (own : List ℕ) → Running before (now (on .entry)) own → r ≡ joinKept before v) ⌝ }
 {
@@ -160,7 +168,7 @@ fn join_kept(on: &[u16; 320], v: Event) -> bool
 }
 
 // The same for the three rules on a task's life.
-fn life_kept(on: &[u16; 320], own: &[u16; 64], v: Event) -> bool
+fn life_kept(on: &[u16; COUNTED], own: &[u16; PLACES], v: Event) -> bool
     requires { ⌜ Small v ⌝ }
     ensures { λ r. ⌜ ((before : List Event) → Running before (now (on .entry)) (now (own .entry)) → r ≡ lifeKept before v) ⌝ }
 {
@@ -174,7 +182,7 @@ fn life_kept(on: &[u16; 320], own: &[u16; 64], v: Event) -> bool
 }
 
 // The same for the rule on waits.
-fn wait_kept(on: &[u16; 320], v: Event) -> bool
+fn wait_kept(on: &[u16; COUNTED], v: Event) -> bool
     requires { ⌜ Small v ⌝ }
     ensures { λ r. ⌜ ((before : List Event) (own : List ℕ) → Running before (now (on .entry)) own → r ≡ waitKept before v) ⌝ }
 {
@@ -185,7 +193,13 @@ fn wait_kept(on: &[u16; 320], v: Event) -> bool
 }
 
 // Checks the event v as record n.
-fn record_check(on: &[u16; 320], own: &[u16; 64], counts: Counts, n: usize, v: Event) -> Check
+fn record_check(
+    on: &[u16; COUNTED],
+    own: &[u16; PLACES],
+    counts: Counts,
+    n: usize,
+    v: Event,
+) -> Check
     requires { ⌜ Few counts ⌝ }
     ensures { λ r. ⌜ ((before : List Event) → Running before (now (on .entry)) (now (own .entry)) → length before ≡ n → r ≡ recordCheck counts before v) ⌝ }
 {
@@ -205,29 +219,29 @@ fn record_check(on: &[u16; 320], own: &[u16; 64], counts: Counts, n: usize, v: E
 }
 
 // Adds the event to the counts of its kind and object, and to those of its task.
-fn note(on: &mut [u16; 320], own: &mut [u16; 64], v: Event)
+fn note(on: &mut [u16; COUNTED], own: &mut [u16; PLACES], v: Event)
     requires { ⌜ Small v × Room (now on) (now own) v ⌝ }
     ensures { λ _. ⌜ now (on .exit) ≡ notedOn (now (on .entry)) v ⌝ }
     ensures { λ _. ⌜ now (own .exit) ≡ notedOwn (now (own .entry)) v ⌝ }
 {
     let task = v.task as usize;
     own[task] += 1;
-    if v.kind < 5 {
-        let at = 64 * (v.kind as usize) + (v.object as usize);
+    if v.kind <= JOIN {
+        let at = PLACES * (v.kind as usize) + (v.object as usize);
         on[at] += 1;
     }
 }
 
 // The first faulty record among the first n.
-pub fn first_fault(recs: &[u8], counts: Counts, n: usize) -> Check
-    requires { ⌜ (4 * n ≤ length (now recs)) × (inRange counts n ≡ true) ⌝ }
-    ensures { λ r. ⌜ r ≡ firstFault (recordingBy (now (recs .entry)) counts) n ⌝ }
+pub fn first_fault(records: &[u8], counts: Counts, n: usize) -> Check
+    requires { ⌜ (4 * n ≤ length (now records)) × (inRange counts n ≡ true) ⌝ }
+    ensures { λ r. ⌜ r ≡ firstFault (recordingBy (now (records .entry)) counts) n ⌝ }
 {
-    let mut on = [0u16; 320];
-    let mut own = [0u16; 64];
+    let mut on = [0u16; COUNTED];
+    let mut own = [0u16; PLACES];
     let mut i = 0;
     while i < n {
-        let v = events::event_at(recs, i);
+        let v = events::event_at(records, i);
         let check = record_check(&on, &own, counts, i, v);
         if let Check::Failed(r) = check {
             return Check::Failed(r);

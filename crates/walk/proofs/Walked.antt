@@ -5,16 +5,16 @@ use Prim.Native.Nat.{ℕ, zero, suc, _+_, _/_, _<_, _≤_}
 use native.Mathlib.Numerals.{add-one}
 use native.Mathlib.Omega.{arith}
 use borrow.Author.Tests.{lt-ltb, le-ltb}
-use lib.ListN.{length, getD}
+use lib.ListN.{length}
 use Rattle.model.specs.declared.Refusal.{Refusal}
 use Rattle.model.specs.declared.Reading.{Reading}
 use Rattle.model.specs.declared.Item.{Item}
-use Rattle.model.specs.Recording.{noEvent}
 use Rattle.model.specs.File.{eventAt, eventsOf}
 use Rattle.model.specs.Reading.{readingOf, recordsOf}
 use Rattle.model.specs.Walking.{stepAt}
 use Rattle.events.proofs.Laws.{event-at}
 use Rattle.recording.proofs.Files.{no-records}
+use Rattle.model.specs.Recording.{eventIn}
 
 -- the number of the next record after k steps from record 0
 unfoldable pub after : List ℕ → ℕ → ℕ
@@ -41,7 +41,7 @@ module _ (s : List ℕ) where
   after-in (suc k) h = rw (after-suc k, after-in k (omega arith), step-in k h) (add-one k)
 
   -- step k yields event k
-  pub yields : (k : ℕ) → k < length s / 4 → stepAt s (after s k) .item ≡ Item.Event (getD (eventsOf s) k noEvent)
+  pub yields : (k : ℕ) → k < length s / 4 → stepAt s (after s k) .item ≡ Item.Event (eventIn (eventsOf s) k)
   yields k h = rw (after-in k (omega arith), step-in k h, event-at s k h)
 
 -- over a refused file there is no record to yield

@@ -7,7 +7,7 @@ use Rattle.analysis.proofs.analyse.Statement.{statement}
 use Rattle.analysis.proofs.analyse.Tie as tie
 
 analyse-read-requires : tie.Need-analyse-read-requires
-analyse-read-requires c κs = sym (c .before .before .before .before .before .read .ensures) ∙ c .before .before .before .header .given .1
+analyse-read-requires c κs = sym (c .before .before .before .before .before .read .ensures) ∙ c .before .before .before .trailer .given .1
 
 returns : tie.Need-returns
 returns c = let r = c .before .before .before .before .analyse-read .ensures in (r .answer, (r .work, r .list))

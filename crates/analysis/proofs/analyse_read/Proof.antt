@@ -6,60 +6,60 @@ use borrow.Author.Needs.{needs}
 use borrow.Author.Tests.{not-true, not-false}
 use Rattle.model.specs.declared.Refusal.{Refusal}
 use Rattle.model.specs.declared.Analysis.{Analysis}
-use Rattle.analysis.specs.Lent.{Analysed}
+use Rattle.analysis.specs.Lent.{Ready, Roomy, Analysed}
 use Rattle.analysis.proofs.Accepted.{inside, ready}
 use Rattle.analysis.proofs.Cases.{roomy, short-work, ended}
 use Rattle.analysis.proofs.analyse_read.Statement.{statement}
 use Rattle.analysis.proofs.analyse_read.Tie as tie
 
-work-fits-requires : tie.Need-work-fits-requires
-work-fits-requires c κs =
-    let s = c .before .before .before .before .before .before in
-    ready (s .args .file .now) (s .args .header) (s .pre) _ (c .before .before .records-of .ensures)
+-- the records are cut out of the file
+module _ (r : tie.After-records-of) where
+  abbrev s : tie.Start
+  s = r .before .before .before .before
+
+  all-ready : Ready (r .records-of .result .now) (s .args .trailer .counts)
+  all-ready = ready (s .args .file .now) (s .args .trailer) (s .pre) _ (r .records-of .ensures)
+
+-- and the work numbers have room
+module _ (t : tie.Else1) where
+  abbrev r : tie.After-records-of
+  r = t .before .before .before .before
+
+  room : Roomy (r .records-of .result .now) (s r .args .trailer .counts) (s r .args .work .now)
+  room =
+      roomy (s r .args .file .now) (s r .args .trailer) (s r .pre) _ (r .records-of .ensures) 0 (s r .args .work .now)
+      (sym (t .before .work-fits .ensures) ∙ not-false _ (t .if1 .left))
 
 returns : tie.Need-returns
 returns c =
-    let s = c .before .before .before .before .before .before .before .before in
-    short-work (s .args .file .now) (s .args .header) (s .pre) _ (c .before .before .before .before .records-of .ensures) _ _ _
+    let r = c .before .before .before .before in
+    short-work (s r .args .file .now) (s r .args .trailer) (s r .pre) _ (r .records-of .ensures) _ _ _
     (sym (c .before .work-fits .ensures) ∙ not-true _ (c .if1 .taken))
-
-fill-requires : tie.Need-fill-requires
-fill-requires c κs =
-    let s = c .before .before .before .before .before .before .before .before .before in
-    let e = c .before .before .before .before .before .records-of .ensures in (
-      ready (s .args .file .now) (s .args .header) (s .pre) _ e,
-      roomy (s .args .file .now) (s .args .header) (s .pre) _ e 0 (s .args .work .now) (sym (c .before .before .work-fits .ensures) ∙ not-false _ (c .before .if1 .left)),
-    )
 
 list-pairs-requires : tie.Need-list-pairs-requires
 list-pairs-requires c κs =
-    let k = c .before .before .before .before in
-    let t = k .before .before in
-    let r = t .before .before .before .before in
-    let s = r .before .before .before .before in
-    let room = roomy (s .args .file .now) (s .args .header) (s .pre) _ (r .records-of .ensures) 0 (s .args .work .now) (sym (t .before .work-fits .ensures) ∙ not-false _ (t .if1 .left)) in
-    (ready (s .args .file .now) (s .args .header) (s .pre) _ (r .records-of .ensures), omega (arith, room, k .fill .kept .1 .1 .1 .0))
+    let k = c .before .before .before .before .before in
+    let p = k .before .before .before in
+    let t = p .before in
+    (all-ready (r t), omega (arith, room t, k .fill .kept .1 .1 .1 .1 .0), p .positions .ensures)
 
 -- the answer, by whether the list had room
 module _ (c : tie.After-list-pairs) where
   abbrev k : tie.After-fill
-  k = c .before .before .before .before .before
+  k = c .before .before .before .before .before .before
 
   abbrev t : tie.Else1
-  t = k .before .before
+  t = k .before .before .before .before
 
-  abbrev r : tie.After-records-of
-  r = t .before .before .before .before
-
-  abbrev s : tie.Start
-  s = r .before .before .before .before
+  abbrev q : tie.After-records-of
+  q = r t
 
   the-end : (y : Bool) → c .list-pairs .result .fits ≡ y
-      → Analysed (s .args .file .now) (s .args .budget) (s .args .work .now) (s .args .list .now)
+      → Analysed (s q .args .file .now) (s q .args .budget) (s q .args .work .now) (s q .args .list .now)
       (cond y (Analysis.Done (k .fill .result .passes) (k .fill .result .settled) (c .list-pairs .result .pairs)) (Analysis.Refused (Refusal.List (c .list-pairs .result .pairs))))
-      (k .fill .last .1 .1 .1 .0) (c .list-pairs .last .1 .1 .1 .0)
+      (k .fill .last .1 .1 .1 .1 .0) (c .list-pairs .last .1 .1 .1 .1 .0)
   the-end =
-      ended (s .args .file .now) (s .args .header) (s .pre) _ (r .records-of .ensures) (s .args .budget) (s .args .work .now)
+      ended (s q .args .file .now) (s q .args .trailer) (s q .pre) _ (q .records-of .ensures) (s q .args .budget) (s q .args .work .now)
       (sym (t .before .work-fits .ensures) ∙ not-false _ (t .if1 .left)) _ (k .fill .ensures .1) _ _ _ _ _ (k .fill .ensures .0 .0) (k .fill .ensures .0 .1) (c .list-pairs .ensures)
 
 returns-2 : tie.Need-returns-2
@@ -73,10 +73,11 @@ analyse-read-spec =
     tie.close
     (tie.spec
     (λ c κs. inside _ _ (c .before .before .before .pre))
-    work-fits-requires
+    (λ c κs. all-ready (c .before .before))
     (λ c. search needs)
     returns
-    fill-requires
+    (λ c κs. let p = all-ready (r c) .records in omega (arith, p .whole, p .few))
+    (λ c κs. let p = c .before .before in (all-ready (r (p .before)), room (p .before), p .positions .ensures))
     list-pairs-requires
     (λ c. search needs)
     (λ c. search needs)

@@ -7,7 +7,7 @@ use Rattle.analysis.proofs.ask.Statement.{statement}
 use Rattle.analysis.proofs.ask.Tie as tie
 
 ask-read-requires : tie.Need-ask-read-requires
-ask-read-requires c κs = sym (c .before .before .before .before .read .ensures) ∙ c .before .before .header .given .1
+ask-read-requires c κs = sym (c .before .before .before .before .read .ensures) ∙ c .before .before .trailer .given .1
 
 returns : tie.Need-returns
 returns c = let r = c .before .before .ask-read .ensures in (r .answer, r .work)

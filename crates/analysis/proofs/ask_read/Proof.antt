@@ -1,77 +1,88 @@
 -- ask_read meets its contract: each of its answers is one of the cases. Assumes nothing.
-use mathlib.Core.Path.{sym, _∙_}
+use mathlib.Core.Path.{_≡_, sym, _∙_}
+use mathlib.Core.Bool.{true}
 use native.Mathlib.Omega.{arith}
 use borrow.Author.Needs.{needs}
 use borrow.Author.Tests.{not-true, not-false}
+use Rattle.model.specs.File.{recordingBy}
+use Rattle.model.specs.Analysing.{workFits}
+use Rattle.model.specs.Question.{twoEvents}
+use Rattle.analysis.specs.Lent.{Ready, Roomy}
 use Rattle.analysis.proofs.Accepted.{inside, ready}
 use Rattle.analysis.proofs.Cases.{roomy, two-numbered, no-events, no-work, answered}
 use Rattle.analysis.proofs.ask_read.Statement.{statement}
 use Rattle.analysis.proofs.ask_read.Tie as tie
 
-two-events-requires : tie.Need-two-events-requires
-two-events-requires c κs =
-    let s = c .before .before .before .before in
-    ready (s .args .file .now) (s .args .header) (s .pre) _ (c .before .records-of .ensures)
+-- the records are cut out of the file
+module _ (r : tie.After-records-of) where
+  abbrev s : tie.Start
+  s = r .before .before .before
+
+  all-ready : Ready (r .records-of .result .now) (s .args .trailer .counts)
+  all-ready = ready (s .args .file .now) (s .args .trailer) (s .pre) _ (r .records-of .ensures)
+
+-- a and b are two of its events
+module _ (t : tie.Else1) where
+  abbrev r : tie.After-records-of
+  r = t .before .before .before
+
+  two : twoEvents (recordingBy (r .records-of .result .now) (s r .args .trailer .counts)) (s r .args .a) (s r .args .b) ≡ true
+  two = sym (t .before .two-events .ensures) ∙ not-false _ (t .if1 .left)
+
+-- and the work numbers have room
+module _ (u : tie.Else2) where
+  abbrev t : tie.Else1
+  t = u .before .before .before
+
+  abbrev q : tie.After-records-of
+  q = r t
+
+  fits : workFits (recordingBy (q .records-of .result .now) (s q .args .trailer .counts)) (s q .args .work .now) ≡ true
+  fits = sym (u .before .work-fits .ensures) ∙ not-false _ (u .if2 .left)
+
+  room : Roomy (q .records-of .result .now) (s q .args .trailer .counts) (s q .args .work .now)
+  room = roomy (s q .args .file .now) (s q .args .trailer) (s q .pre) _ (q .records-of .ensures) 0 (s q .args .work .now) fits
 
 returns : tie.Need-returns
 returns c =
-    let s = c .before .before .before .before .before .before in
-    no-events (s .args .file .now) (s .args .header) (s .pre) _ (c .before .before .before .records-of .ensures) _ _ _ _
+    let r = c .before .before .before in
+    no-events (s r .args .file .now) (s r .args .trailer) (s r .pre) _ (r .records-of .ensures) _ _ _ _
     (sym (c .before .two-events .ensures) ∙ not-true _ (c .if1 .taken))
-
-work-fits-requires : tie.Need-work-fits-requires
-work-fits-requires c κs =
-    let s = c .before .before .before .before .before .before .before in
-    ready (s .args .file .now) (s .args .header) (s .pre) _ (c .before .before .before .before .records-of .ensures)
 
 returns-2 : tie.Need-returns-2
 returns-2 c =
     let t = c .before .before .before in
-    let s = t .before .before .before .before .before .before in
-    no-work (s .args .file .now) (s .args .header) (s .pre) _ (t .before .before .before .records-of .ensures) _ _ _ _
-    (sym (t .before .two-events .ensures) ∙ not-false _ (t .if1 .left)) (sym (c .before .work-fits .ensures) ∙ not-true _ (c .if2 .taken))
-
-fill-requires : tie.Need-fill-requires
-fill-requires c κs =
-    let r = c .before .before .before .before .before .before .before in
-    let s = r .before .before .before in (
-      ready (s .args .file .now) (s .args .header) (s .pre) _ (r .records-of .ensures),
-      roomy (s .args .file .now) (s .args .header) (s .pre) _ (r .records-of .ensures) 0 (s .args .work .now) (sym (c .before .before .work-fits .ensures) ∙ not-false _ (c .before .if2 .left)),
-    )
+    let q = r t in
+    no-work (s q .args .file .now) (s q .args .trailer) (s q .pre) _ (q .records-of .ensures) _ _ _ _ (two t) (sym (c .before .work-fits .ensures) ∙ not-true _ (c .if2 .taken))
 
 relate-requires : tie.Need-relate-requires
 relate-requires c κs =
-    let k = c .before .before .before in
-    let u = k .before .before in
-    let t = u .before .before .before in
-    let r = t .before .before .before in
-    let s = r .before .before .before in
-    let room = roomy (s .args .file .now) (s .args .header) (s .pre) _ (r .records-of .ensures) 0 (s .args .work .now) (sym (u .before .work-fits .ensures) ∙ not-false _ (u .if2 .left)) in (
-      (ready (s .args .file .now) (s .args .header) (s .pre) _ (r .records-of .ensures), omega (arith, room, k .fill .kept .1 .1 .1 .0)),
-      two-numbered (s .args .file .now) (s .args .header) (s .pre) _ (r .records-of .ensures) 0 (s .args .work .now) _ _ (sym (t .before .two-events .ensures) ∙ not-false _ (t .if1 .left)),
+    let k = c .before .before .before .before in
+    let p = k .before .before .before in
+    let u = p .before in (
+      (all-ready (q u), omega (arith, room u, k .fill .kept .1 .1 .1 .1 .0), p .positions .ensures),
+      two-numbered (s (q u) .args .file .now) (s (q u) .args .trailer) (s (q u) .pre) _ (q u .records-of .ensures) 0 (s (q u) .args .work .now) _ _ (two (t u)),
     )
 
 returns-3 : tie.Need-returns-3
 returns-3 c =
-    let k = c .before .before .before .before in
-    let u = k .before .before in
-    let t = u .before .before .before in
-    let r = t .before .before .before in
-    let s = r .before .before .before in
-    answered (s .args .file .now) (s .args .header) (s .pre) _ (r .records-of .ensures) (s .args .budget) (s .args .work .now) (s .args .a) (s .args .b)
-    (sym (t .before .two-events .ensures) ∙ not-false _ (t .if1 .left)) (sym (u .before .work-fits .ensures) ∙ not-false _ (u .if2 .left)) _ (k .fill .ensures .1) _ (c .relate .ensures)
+    let k = c .before .before .before .before .before in
+    let u = k .before .before .before .before in
+    let a = s (q u) .args in
+    answered (a .file .now) (a .trailer) (s (q u) .pre) _ (q u .records-of .ensures) (a .budget) (a .work .now) (a .a) (a .b) (two (t u)) (fits u) _ (k .fill .ensures .1) _ (c .relate .ensures)
 
 pub ask-read-spec : {M : Type 1} → statement M
 ask-read-spec =
     tie.close
     (tie.spec
     (λ c κs. inside _ _ (c .before .before .pre))
-    two-events-requires
+    (λ c κs. all-ready (c .before))
     returns
-    work-fits-requires
+    (λ c κs. all-ready (r (c .before)))
     (λ c. search needs)
     returns-2
-    fill-requires
+    (λ c κs. let p = all-ready (q c) .records in omega (arith, p .whole, p .few))
+    (λ c κs. let p = c .before .before in (all-ready (q (p .before)), room (p .before), p .positions .ensures))
     relate-requires
     (λ c. search needs)
     returns-3)

@@ -5,26 +5,30 @@ use borrow.Author.Needs.{needs}
 use Rattle.model.specs.File.{recordingBy}
 use Rattle.model.specs.Vectors.{Vectors}
 use Rattle.model.specs.Pairs.{entries}
-use Rattle.pairs.specs.Lent.{Outcome}
+use Rattle.pairs.specs.Lent.{WrittenList}
 use Rattle.analysis.proofs.Parts.{first-part, second-part, as-vectors}
 use Rattle.analysis.proofs.list_pairs.Statement.{statement}
 use Rattle.analysis.proofs.list_pairs.Tie as tie
 
-slice-aggregate-list : tie.Need-slice-aggregate-list
-slice-aggregate-list c = sym (first-part _ _ (omega arith))
-
 list-requires : tie.Need-list-requires
 list-requires c κs =
-    let s = c .before .before .before .before .before .before .before in
-    let e = c .before .before .before .numbers .ensures .0 in
-    (s .pre .0 .records, s .pre .0 .cells, first-part _ _ (omega arith) ∙ e, second-part _ _ (omega arith) ∙ e)
+    let n = c .before .before .before .before in
+    let s = n .before .before .before .before in
+    let e = n .numbers .ensures .0 in
+    record {
+      placed = record { records = s .pre .0 .records; kept = s .pre .2 };
+      cells = s .pre .0 .cells;
+      safe = first-part _ _ (omega arith) ∙ e;
+      recorded = second-part _ _ (omega arith) ∙ e;
+    }
 
 returns : tie.Need-returns
 returns c =
-    let s = c .before .before .before .before .before .before .before .before .before .before in
+    let n = c .before .before .before .before .before .before .before in
+    let s = n .before .before .before .before in
     let l = c .before .before .list in
-    as-vectors (s .args .recs .now) (s .args .counts) (s .args .work .now) _ (c .before .before .before .before .before .before .numbers .ensures .0)
-    (λ (X R : Vectors). Outcome (entries (recordingBy (s .args .recs .now) (s .args .counts)) X R) (s .args .list .now) (l .last .1 .1 .1 .1 .0) (l .result .fits) (l .result .pairs))
+    as-vectors (s .args .records .now) (s .args .counts) (s .args .work .now) _ (n .numbers .ensures .0)
+    (λ (X R : Vectors). WrittenList (entries (recordingBy (s .args .records .now) (s .args .counts)) X R) (s .args .list .now) (l .last .1 .1 .1 .1 .1 .0) (l .result .fits) (l .result .pairs))
     (l .ensures)
 
 pub list-pairs-spec : {M : Type 1} → statement M
@@ -33,7 +37,7 @@ list-pairs-spec =
     (tie.spec
     (λ c κs. search needs)
     (λ c. omega arith)
-    slice-aggregate-list
+    (λ c. sym (first-part _ _ (omega arith)))
     (λ c. omega arith)
     (λ c. omega arith)
     (λ c. search needs)

@@ -4,25 +4,24 @@ use native.Mathlib.Omega.{arith}
 use borrow.Author.Needs.{needs}
 use Rattle.model.specs.File.{recordingBy}
 use Rattle.model.specs.Vectors.{Vectors}
-use Rattle.pairs.specs.Lent.{relationBy}
+use Rattle.model.specs.Question.{relationBy}
 use Rattle.analysis.proofs.Parts.{first-part, second-part, as-vectors}
 use Rattle.analysis.proofs.relate.Statement.{statement}
 use Rattle.analysis.proofs.relate.Tie as tie
 
-slice-aggregate-relation : tie.Need-slice-aggregate-relation
-slice-aggregate-relation c = sym (first-part _ _ (omega arith))
-
 relation-requires : tie.Need-relation-requires
 relation-requires c κs =
-    let s = c .before .before .before .before .before in
-    let e = c .before .before .numbers .ensures .0 in
-    ((s .pre .0 .0 .records, s .pre .0 .0 .cells, first-part _ _ (omega arith) ∙ e, second-part _ _ (omega arith) ∙ e), s .pre .1)
+    let n = c .before .before .before in
+    let s = n .before .before .before in
+    let e = n .numbers .ensures .0 in
+    ((record { records = s .pre .0 .0 .records; kept = s .pre .0 .2 }, first-part _ _ (omega arith) ∙ e, second-part _ _ (omega arith) ∙ e), s .pre .1)
 
 returns : tie.Need-returns
 returns c =
-    let s = c .before .before .before .before .before .before in
-    as-vectors (s .args .recs .now) (s .args .counts) (s .args .work .now) _ (c .before .before .before .numbers .ensures .0)
-    (λ (X R : Vectors). c .relation .result ≡ relationBy (recordingBy (s .args .recs .now) (s .args .counts)) X R (s .args .a) (s .args .b))
+    let n = c .before .before .before .before in
+    let s = n .before .before .before in
+    as-vectors (s .args .records .now) (s .args .counts) (s .args .work .now) _ (n .numbers .ensures .0)
+    (λ (X R : Vectors). c .relation .result ≡ relationBy (recordingBy (s .args .records .now) (s .args .counts)) X R (s .args .a) (s .args .b))
     (c .relation .ensures)
 
 pub relate-spec : {M : Type 1} → statement M
@@ -31,7 +30,7 @@ relate-spec =
     (tie.spec
     (λ c κs. search needs)
     (λ c. omega arith)
-    slice-aggregate-relation
+    (λ c. sym (first-part _ _ (omega arith)))
     (λ c. omega arith)
     (λ c. omega arith)
     (λ c. search needs)

@@ -9,7 +9,7 @@ use Rattle.analysis.proofs.two_events.Tie as tie
 
 returns : tie.Need-returns
 returns c =
-    let e : length (c .args .recs .now) / 4 ≡ length (eventsOf (c .args .recs .now)) = omega (arith, c .pre .records .whole) in
+    let e : length (c .args .records .now) / 4 ≡ length (eventsOf (c .args .records .now)) = omega (arith, c .pre .records .whole) in
     rw e
 
 pub two-events-spec : {M : Type 1} → statement M

@@ -7,7 +7,7 @@ use Rattle.events.proofs.event_at.Tie as tie
 
 returns : tie.Need-returns
 unfolding eventAt
-returns c = let a = c .before .before .before .before .args in rw (event-at (a .recs .now) (a .e) (omega arith), c .u16-at .ensures)
+returns c = let a = c .before .before .before .before .args in rw (event-at (a .records .now) (a .e) (omega arith), c .u16-at .ensures)
 
 pub event-at-spec : {M : Type 1} → statement M
 event-at-spec =

@@ -9,10 +9,10 @@ use Rattle.events.proofs.gather.Statement.{statement}
 use Rattle.events.proofs.gather.Tie as tie
 
 abbrev Inv-loop : tie.InvT-loop
-Inv-loop recs lo hi limit e₀ none chain₀ e chain = (e ≤ length recs / 4) × Chained (among recs lo hi) (length recs / 4) limit e chain
+Inv-loop records lo hi limit e₀ none chain₀ e chain = (e ≤ length records / 4) × Chained (among records lo hi) (length records / 4) limit e chain
 
 abbrev μ-loop : tie.MeasureT-loop
-μ-loop recs lo hi limit e₀ none chain₀ e chain = e
+μ-loop records lo hi limit e₀ none chain₀ e chain = e
 
 loop-holds : tie.Need-loop-holds Inv-loop μ-loop
 loop-holds c = let s = c .before in (omega arith, start _ _ _ (s .pre .1))

@@ -3,20 +3,19 @@ use mathlib.Core.Path.{_≡_, refl, ap, _∙_}
 use Prim.Native.Nat.{_≤_}
 use native.Mathlib.Omega.{arith}
 use borrow.Author.Needs.{needs}
-use lib.ListN.{getD}
 use Rattle.model.specs.Numbers.{lastOf}
-use Rattle.model.specs.Recording.{isOn, noEvent}
+use Rattle.model.specs.Recording.{isOn, eventIn}
 use Rattle.model.specs.File.{eventsOf}
 use Rattle.events.proofs.Laws.{last-none, last-here, last-lower}
 use Rattle.events.proofs.last_on.Statement.{statement}
 use Rattle.events.proofs.last_on.Tie as tie
 
 abbrev Inv-loop : tie.InvT-loop
-Inv-loop recs n kind object i₀ i =
-    (i ≤ n) × (lastOf (λ a. isOn kind object (getD (eventsOf recs) a noEvent)) i ≡ lastOf (λ a. isOn kind object (getD (eventsOf recs) a noEvent)) n)
+Inv-loop records n kind object i₀ i =
+    (i ≤ n) × (lastOf (λ a. isOn kind object (eventIn (eventsOf records) a)) i ≡ lastOf (λ a. isOn kind object (eventIn (eventsOf records) a)) n)
 
 abbrev μ-loop : tie.MeasureT-loop
-μ-loop recs n kind object i₀ i = i
+μ-loop records n kind object i₀ i = i
 
 loop-holds : tie.Need-loop-holds Inv-loop μ-loop
 loop-holds c = (omega arith, refl)

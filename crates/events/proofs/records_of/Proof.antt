@@ -9,7 +9,7 @@ use Rattle.events.proofs.records_of.Tie as tie
 returns : tie.Need-returns
 unfolding recordBytes
 returns c =
-    let h = c .before .before .args .header in
+    let h = c .before .before .args .trailer in
     let e : h .start + 4 * h .records - h .start ≡ 4 * h .records = omega arith in
     rw e
 

@@ -10,15 +10,15 @@ use Rattle.pairs.proofs.count.Statement.{statement}
 use Rattle.pairs.proofs.count.Tie as tie
 
 abbrev Inv-loop : tie.InvT-loop
-Inv-loop recs counts at chain safe cells pairs₀ cell₀ pairs cell =
+Inv-loop records counts positions chain safe cells pairs₀ cell₀ pairs cell =
     (cells ≤ 1024)
     × (cell ≤ cells)
     × (cells ≡ counts .cells)
     × (pairs ≤ 1048576 * cell)
-    × Counted (λ R. cellEntries (recordingBy recs counts) (vectorsIn recs counts safe) R) cell pairs
+    × Counted (λ R. cellEntries (recordingBy records counts) (vectorsIn records counts safe) R) cell pairs
 
 abbrev μ-loop : tie.MeasureT-loop
-μ-loop recs counts at chain safe cells pairs₀ cell₀ pairs cell = cells - cell
+μ-loop records counts positions chain safe cells pairs₀ cell₀ pairs cell = cells - cell
 
 loop-holds : tie.Need-loop-holds Inv-loop μ-loop
 loop-holds c = (c .before .before .before .pre .1 .1, omega arith, refl, omega arith, count-none _)

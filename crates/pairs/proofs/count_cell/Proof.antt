@@ -7,9 +7,8 @@ use lib.ListN.{length, getD}
 use Rattle.model.specs.Recording.{Recording}
 use Rattle.model.specs.File.{eventsOf, recordingBy}
 use Rattle.model.specs.Vectors.{Vectors}
-use Rattle.model.specs.Pairs.{cellEntries}
+use Rattle.model.specs.Pairs.{cellEntries, rowAt}
 use Rattle.passes.specs.Lent.{vectorsIn}
-use Rattle.pairs.specs.Lent.{rowAt}
 use Rattle.events.specs.Chains.{head}
 use Rattle.pairs.specs.Chains.{accessOf, Nearest, InChain}
 use Rattle.pairs.proofs.Chains.{in-chain}
@@ -18,18 +17,18 @@ use Rattle.pairs.proofs.count_cell.Statement.{statement}
 use Rattle.pairs.proofs.count_cell.Tie as tie
 
 abbrev Inv-loop : tie.InvT-loop
-Inv-loop recs counts at chain safe cell n pairs₀ a₀ pairs a =
-    (a ≤ length (eventsOf recs))
-    × (n ≡ length (eventsOf recs))
+Inv-loop records counts positions chain safe cell n pairs₀ a₀ pairs a =
+    (a ≤ length (eventsOf records))
+    × (n ≡ length (eventsOf records))
     × (pairs ≤ 1024 * a)
-    × (a < length (eventsOf recs) → accessOf recs cell a ≡ true)
-    × Counted (λ R. rowAt (recordingBy recs counts) (vectorsIn recs counts safe) R cell) a pairs
+    × (a < length (eventsOf records) → accessOf records cell a ≡ true)
+    × Counted (λ R. rowAt (recordingBy records counts) (vectorsIn records counts safe) R cell) a pairs
 
 abbrev μ-loop : tie.MeasureT-loop
-μ-loop recs counts at chain safe cell n pairs₀ a₀ pairs a = n - a
+μ-loop records counts positions chain safe cell n pairs₀ a₀ pairs a = n - a
 
 -- the first event of the chain
-ahead : (s : tie.Start Inv-loop μ-loop) → Nearest (s .args .recs .now) (s .args .cell) 0 (getD (s .args .chain .now) (head (s .args .cell)) 0)
+ahead : (s : tie.Start Inv-loop μ-loop) → Nearest (s .args .records .now) (s .args .cell) 0 (getD (s .args .chain .now) (head (s .args .cell)) 0)
 ahead s = s .pre .1 .0 .heads (s .args .cell) (s .pre .1 .1)
 
 loop-holds : tie.Need-loop-holds Inv-loop μ-loop
@@ -46,18 +45,18 @@ module _ (c : tie.In-loop Inv-loop μ-loop) where
   s = k .before .before .before .before .before
 
   abbrev E : Recording
-  E = recordingBy (s .args .recs .now) (s .args .counts)
+  E = recordingBy (s .args .records .now) (s .args .counts)
 
   abbrev X : Vectors
-  X = vectorsIn (s .args .recs .now) (s .args .counts) (s .args .safe .now)
+  X = vectorsIn (s .args .records .now) (s .args .counts) (s .args .safe .now)
 
-  inside : k .loop .a < length (eventsOf (s .args .recs .now))
+  inside : k .loop .a < length (eventsOf (s .args .records .now))
   inside = omega arith
 
-  here : InChain (s .args .recs .now) (s .args .counts .cells) (k .loop .a)
+  here : InChain (s .args .records .now) (s .args .counts .cells) (k .loop .a)
   here = in-chain _ _ (s .args .cell) _ inside (s .pre .1 .1) (k .loop .inv .3 inside)
 
-  near : Nearest (s .args .recs .now) (s .args .cell) (k .loop .a + 1) (getD (s .args .chain .now) (k .loop .a) 0)
+  near : Nearest (s .args .records .now) (s .args .cell) (k .loop .a + 1) (getD (s .args .chain .now) (k .loop .a) 0)
   near = s .pre .1 .0 .links (k .loop .a) (s .args .cell) (omega arith) inside (s .pre .1 .1) (k .loop .inv .3 inside)
 
 count-row-requires : tie.Need-count-row-requires Inv-loop μ-loop

@@ -4,31 +4,30 @@ use mathlib.Core.Bool.{true}
 use Prim.Native.Nat.{_+_, _-_, _≤_, _<_}
 use native.Mathlib.Omega.{arith}
 use lib.ListN.{length, getD}
-use Rattle.model.specs.Recording.{noEvent}
 use Rattle.model.specs.File.{eventsOf, recordingBy}
-use Rattle.model.specs.Pairs.{entriesOf}
+use Rattle.model.specs.Pairs.{entriesOf, pairAt}
 use Rattle.passes.specs.Lent.{vectorsIn}
-use Rattle.pairs.specs.Lent.{pairAt}
 use Rattle.pairs.specs.Chains.{accessOf, Nearest}
 use Rattle.pairs.proofs.Race.{Counted, count-more, count-skip, count-all, pair-few, pair-skip, pair-start}
 use Rattle.pairs.proofs.count_row.Statement.{statement}
 use Rattle.pairs.proofs.count_row.Tie as tie
+use Rattle.model.specs.Recording.{eventIn}
 
 abbrev Inv-loop : tie.InvT-loop
-Inv-loop recs counts at chain safe a n pairs₀ b₀ pairs b =
+Inv-loop records counts positions chain safe a n pairs₀ b₀ pairs b =
     (a < b)
-    × (b ≤ length (eventsOf recs))
-    × (n ≡ length (eventsOf recs))
+    × (b ≤ length (eventsOf records))
+    × (n ≡ length (eventsOf records))
     × (pairs ≤ b)
-    × (b < length (eventsOf recs) → accessOf recs (getD (eventsOf recs) a noEvent .object) b ≡ true)
-    × Counted (λ R. pairAt (recordingBy recs counts) (vectorsIn recs counts safe) R a) b pairs
+    × (b < length (eventsOf records) → accessOf records (eventIn (eventsOf records) a .object) b ≡ true)
+    × Counted (λ R. pairAt (recordingBy records counts) (vectorsIn records counts safe) R a) b pairs
 
 abbrev μ-loop : tie.MeasureT-loop
-μ-loop recs counts at chain safe a n pairs₀ b₀ pairs b = n - b
+μ-loop records counts positions chain safe a n pairs₀ b₀ pairs b = n - b
 
 -- the event behind a in its chain
 behind : (s : tie.Start Inv-loop μ-loop)
-    → Nearest (s .args .recs .now) (getD (eventsOf (s .args .recs .now)) (s .args .a) noEvent .object) (s .args .a + 1) (getD (s .args .chain .now) (s .args .a) 0)
+    → Nearest (s .args .records .now) (eventIn (eventsOf (s .args .records .now)) (s .args .a) .object) (s .args .a + 1) (getD (s .args .chain .now) (s .args .a) 0)
 behind s = let i = s .pre .1 .1 in s .pre .1 .0 .links (s .args .a) _ (omega arith) (i .numbered) (i .cell) (i .access)
 
 loop-holds : tie.Need-loop-holds Inv-loop μ-loop
@@ -47,15 +46,15 @@ module _ (c : tie.After-count-pair Inv-loop μ-loop) where
   abbrev s : tie.Start Inv-loop μ-loop
   s = k .before .before .before .before .before
 
-  inside : k .loop .b < length (eventsOf (s .args .recs .now))
+  inside : k .loop .b < length (eventsOf (s .args .records .now))
   inside = omega arith
 
-  near : Nearest (s .args .recs .now) (getD (eventsOf (s .args .recs .now)) (s .args .a) noEvent .object) (k .loop .b + 1) (getD (s .args .chain .now) (k .loop .b) 0)
+  near : Nearest (s .args .records .now) (eventIn (eventsOf (s .args .records .now)) (s .args .a) .object) (k .loop .b + 1) (getD (s .args .chain .now) (k .loop .b) 0)
   near = s .pre .1 .0 .links (k .loop .b) _ (omega arith) inside (s .pre .1 .1 .cell) (k .loop .inv .4 inside)
 
   few : c .count-pair .result ≤ 1
   few =
-      pair-few (recordingBy (s .args .recs .now) (s .args .counts)) (vectorsIn (s .args .recs .now) (s .args .counts) (s .args .safe .now)) _ (s .args .a) (k .loop .b)
+      pair-few (recordingBy (s .args .records .now) (s .args .counts)) (vectorsIn (s .args .records .now) (s .args .counts) (s .args .safe .now)) _ (s .args .a) (k .loop .b)
       (c .count-pair .ensures)
 
 loop-again : tie.Need-loop-again Inv-loop μ-loop

@@ -11,15 +11,15 @@ use Rattle.pairs.proofs.list_all.Statement.{statement}
 use Rattle.pairs.proofs.list_all.Tie as tie
 
 abbrev Inv-loop : tie.InvT-loop
-Inv-loop recs counts at chain safe recorded out₀ p cells next₀ cell₀ out next cell =
+Inv-loop records counts positions chain safe recorded out₀ p cells next₀ cell₀ out next cell =
     (cell ≤ cells)
     × (cells ≡ counts .cells)
     × (cells ≤ 1024)
     × (length out ≡ length out₀)
-    × Stored out₀ p (each (over cellEntries recs counts safe recorded) cell) out next
+    × Stored out₀ p (each (over cellEntries records counts safe recorded) cell) out next
 
 abbrev μ-loop : tie.MeasureT-loop
-μ-loop recs counts at chain safe recorded out₀ p cells next₀ cell₀ out next cell = cells - cell
+μ-loop records counts positions chain safe recorded out₀ p cells next₀ cell₀ out next cell = cells - cell
 
 loop-holds : tie.Need-loop-holds Inv-loop μ-loop
 unfolding each
@@ -30,7 +30,7 @@ unfolding entries
 list-cell-requires c κs =
     let s = c .before .before .before .before .before .before .before .before in
     let k = c .before .before .loop in
-    let f = over cellEntries (s .args .recs .now) (s .args .counts) (s .args .safe .now) (s .args .recorded .now) in
+    let f = over cellEntries (s .args .records .now) (s .args .counts) (s .args .safe .now) (s .args .recorded .now) in
     ((s .pre .0 .0, s .pre .0 .1, omega arith), stored-room f (k .cell) (s .args .counts .cells) (length (k .out)) (omega arith) (k .inv .4) (omega (arith, s .pre .1)))
 
 loop-again : tie.Need-loop-again Inv-loop μ-loop

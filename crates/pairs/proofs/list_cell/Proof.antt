@@ -7,8 +7,8 @@ use native.Mathlib.Omega.{arith}
 use lib.ListN.{length, getD}
 use Rattle.model.specs.Numbers.{each}
 use Rattle.model.specs.File.{eventsOf}
-use Rattle.model.specs.Pairs.{Entry, entriesOf, cellEntries}
-use Rattle.pairs.specs.Lent.{over, rowAt, Stored}
+use Rattle.model.specs.Pairs.{Entry, entriesOf, cellEntries, rowAt}
+use Rattle.pairs.specs.Lent.{over, Stored}
 use Rattle.events.specs.Chains.{head}
 use Rattle.pairs.specs.Chains.{accessOf, Nearest, InChain}
 use Rattle.pairs.proofs.Chains.{in-chain}
@@ -18,18 +18,18 @@ use Rattle.pairs.proofs.list_cell.Statement.{statement}
 use Rattle.pairs.proofs.list_cell.Tie as tie
 
 abbrev Inv-loop : tie.InvT-loop
-Inv-loop recs counts at chain safe recorded cell out₀ p n next₀ a₀ out next a =
-    (a ≤ length (eventsOf recs))
-    × (n ≡ length (eventsOf recs))
+Inv-loop records counts positions chain safe recorded cell out₀ p n next₀ a₀ out next a =
+    (a ≤ length (eventsOf records))
+    × (n ≡ length (eventsOf records))
     × (length out ≡ length out₀)
-    × (a < length (eventsOf recs) → accessOf recs cell a ≡ true)
-    × Stored out₀ p (each (over rowAt recs counts safe recorded cell) a) out next
+    × (a < length (eventsOf records) → accessOf records cell a ≡ true)
+    × Stored out₀ p (each (over rowAt records counts safe recorded cell) a) out next
 
 abbrev μ-loop : tie.MeasureT-loop
-μ-loop recs counts at chain safe recorded cell out₀ p n next₀ a₀ out next a = n - a
+μ-loop records counts positions chain safe recorded cell out₀ p n next₀ a₀ out next a = n - a
 
 -- the first event of the chain
-ahead : (s : tie.Start Inv-loop μ-loop) → Nearest (s .args .recs .now) (s .args .cell) 0 (getD (s .args .chain .now) (head (s .args .cell)) 0)
+ahead : (s : tie.Start Inv-loop μ-loop) → Nearest (s .args .records .now) (s .args .cell) 0 (getD (s .args .chain .now) (head (s .args .cell)) 0)
 ahead s = s .pre .0 .1 .heads (s .args .cell) (s .pre .0 .2)
 
 loop-holds : tie.Need-loop-holds Inv-loop μ-loop
@@ -47,18 +47,18 @@ module _ (c : tie.In-loop Inv-loop μ-loop) where
   s = k .before .before .before .before .before .before .before
 
   abbrev rows : ℕ → List Entry
-  rows = over rowAt (s .args .recs .now) (s .args .counts) (s .args .safe .now) (s .args .recorded .now) (s .args .cell)
+  rows = over rowAt (s .args .records .now) (s .args .counts) (s .args .safe .now) (s .args .recorded .now) (s .args .cell)
 
-  inside : k .loop .a < length (eventsOf (s .args .recs .now))
+  inside : k .loop .a < length (eventsOf (s .args .records .now))
   inside = omega arith
 
-  here : InChain (s .args .recs .now) (s .args .counts .cells) (k .loop .a)
+  here : InChain (s .args .records .now) (s .args .counts .cells) (k .loop .a)
   here = in-chain _ _ (s .args .cell) _ inside (s .pre .0 .2) (k .loop .inv .3 inside)
 
-  near : Nearest (s .args .recs .now) (s .args .cell) (k .loop .a + 1) (getD (s .args .chain .now) (k .loop .a) 0)
+  near : Nearest (s .args .records .now) (s .args .cell) (k .loop .a + 1) (getD (s .args .chain .now) (k .loop .a) 0)
   near = s .pre .0 .1 .links (k .loop .a) (s .args .cell) (omega arith) inside (s .pre .0 .2) (k .loop .inv .3 inside)
 
-  the-row : rows (k .loop .a) ≡ over entriesOf (s .args .recs .now) (s .args .counts) (s .args .safe .now) (s .args .recorded .now) (k .loop .a)
+  the-row : rows (k .loop .a) ≡ over entriesOf (s .args .records .now) (s .args .counts) (s .args .safe .now) (s .args .recorded .now) (k .loop .a)
   the-row = row-hit _ _ _ (s .args .cell) (k .loop .a) (k .loop .inv .3 inside)
 
 list-row-requires : tie.Need-list-row-requires Inv-loop μ-loop
@@ -67,7 +67,7 @@ list-row-requires c κs =
     let d = c .before in
     let p = k d .loop in
     let r : p .next + 3 * length (rows d (p .a)) ≤ length (p .out) =
-    stored-room (rows d) (p .a) (length (eventsOf (s d .args .recs .now))) (length (p .out)) (inside d) (p .inv .4) (omega (arith, s d .pre .1)) in
+    stored-room (rows d) (p .a) (length (eventsOf (s d .args .records .now))) (length (p .out)) (inside d) (p .inv .4) (omega (arith, s d .pre .1)) in
     ((s d .pre .0 .0, s d .pre .0 .1, here d), omega (arith, ap length (the-row d)))
 
 loop-again : tie.Need-loop-again Inv-loop μ-loop

@@ -16,20 +16,20 @@ use Rattle.passes.proofs.candidates.Statement.{statement}
 use Rattle.passes.proofs.candidates.Tie as tie
 
 abbrev Inv-loop : tie.InvT-loop
-Inv-loop recs counts at v e s out₀ n c₀ a₀ out c a =
+Inv-loop records counts positions v e s out₀ n c₀ a₀ out c a =
     (a ≤ n)
     × (c ≤ a)
     × (length out ≡ length out₀)
-    × (c ≡ length (picked (candidate (recordingBy recs counts) (vectorsIn recs counts v) e s) a))
-    × (out ≡ picked (candidate (recordingBy recs counts) (vectorsIn recs counts v) e s) a ++ drop c out₀)
+    × (c ≡ length (picked (candidate (recordingBy records counts) (vectorsIn records counts v) e s) a))
+    × (out ≡ picked (candidate (recordingBy records counts) (vectorsIn records counts v) e s) a ++ drop c out₀)
 
 abbrev μ-loop : tie.MeasureT-loop
-μ-loop recs counts at v e s out₀ n c₀ a₀ out c a = n - a
+μ-loop records counts positions v e s out₀ n c₀ a₀ out c a = n - a
 
 loop-holds : tie.Need-loop-holds Inv-loop μ-loop
 loop-holds c =
     let r = c .before .before .before .before .args in
-    let p = candidate (recordingBy (r .recs .now) (r .counts)) (vectorsIn (r .recs .now) (r .counts) (r .v .now)) (r .e) (r .s) in
+    let p = candidate (recordingBy (r .records .now) (r .counts)) (vectorsIn (r .records .now) (r .counts) (r .v .now)) (r .e) (r .s) in
     rw (picked-start p) (omega arith, omega arith, refl, refl, refl)
 
 loop-again : tie.Need-loop-again Inv-loop μ-loop
@@ -37,7 +37,7 @@ loop-again c =
     let r = c .before .before .before .before .before .before .before .before .args in
     let k = c .before .before .before .loop in
     let f = c .before .is-candidate in
-    let p = candidate (recordingBy (r .recs .now) (r .counts)) (vectorsIn (r .recs .now) (r .counts) (r .v .now)) (r .e) (r .s) in
+    let p = candidate (recordingBy (r .records .now) (r .counts)) (vectorsIn (r .records .now) (r .counts) (r .v .now)) (r .e) (r .s) in
     let room : k .c < length (r .out .now) = omega arith in
     ⊎-elim
     (λ w.
@@ -58,9 +58,9 @@ returns : tie.Need-returns Inv-loop μ-loop
 returns c =
     let r = c .before .before .before .before .before .before .args in
     let k = c .before .loop in
-    let E = recordingBy (r .recs .now) (r .counts) in
+    let E = recordingBy (r .records .now) (r .counts) in
     let q : k .a ≡ size E = omega arith in
-    let z = candidates-all E (vectorsIn (r .recs .now) (r .counts) (r .v .now)) (r .e) (r .s) (k .a) q in
+    let z = candidates-all E (vectorsIn (r .records .now) (r .counts) (r .v .now)) (r .e) (r .s) (k .a) q in
     (k .inv .3 ∙ ap length z, k .inv .4 ∙ ap (λ (l : List ℕ). l ++ drop (k .c) (r .out .now)) z)
 
 pub candidates-spec : {M : Type 1} → statement M

@@ -16,25 +16,25 @@ use Rattle.passes.proofs.needed.Statement.{statement}
 use Rattle.passes.proofs.needed.Tie as tie
 
 abbrev Inv-loop : tie.InvT-loop
-Inv-loop recs counts at v e s n k₀ w₀ k w =
-    (w ≤ n) × (k ≤ w + 1) × (k ≡ suc (tally (waitBefore (recordingBy recs counts) (vectorsIn recs counts v) e s) w))
+Inv-loop records counts positions v e s n k₀ w₀ k w =
+    (w ≤ n) × (k ≤ w + 1) × (k ≡ suc (tally (waitBefore (recordingBy records counts) (vectorsIn records counts v) e s) w))
 
 abbrev μ-loop : tie.MeasureT-loop
-μ-loop recs counts at v e s n k₀ w₀ k w = n - w
+μ-loop records counts positions v e s n k₀ w₀ k w = n - w
 
 loop-holds : tie.Need-loop-holds Inv-loop μ-loop
 loop-holds c =
     let a = c .before .before .before .args in
-    let E = recordingBy (a .recs .now) (a .counts) in
-    omega (arith, tally-start (waitBefore E (vectorsIn (a .recs .now) (a .counts) (a .v .now)) (a .e) (a .s)))
+    let E = recordingBy (a .records .now) (a .counts) in
+    omega (arith, tally-start (waitBefore E (vectorsIn (a .records .now) (a .counts) (a .v .now)) (a .e) (a .s)))
 
 loop-again : tie.Need-loop-again Inv-loop μ-loop
 loop-again c =
     let a = c .before .before .before .before .before .before .before .args in
     let k = c .before .before .before .loop in
     let f = c .before .is-wait-before in
-    let E = recordingBy (a .recs .now) (a .counts) in
-    let q = tally-next (waitBefore E (vectorsIn (a .recs .now) (a .counts) (a .v .now)) (a .e) (a .s)) (k .w) in
+    let E = recordingBy (a .records .now) (a .counts) in
+    let q = tally-next (waitBefore E (vectorsIn (a .records .now) (a .counts) (a .v .now)) (a .e) (a .s)) (k .w) in
     ⊎-elim
     (λ w. omega (arith, ap bit (sym (f .ensures) ∙ w .0 .taken)))
     (λ w. omega (arith, ap bit (sym (f .ensures) ∙ w .0 .left)))
@@ -44,8 +44,8 @@ returns : tie.Need-returns Inv-loop μ-loop
 returns c =
     let a = c .before .before .before .before .before .args in
     let k = c .before .loop in
-    let E = recordingBy (a .recs .now) (a .counts) in
-    let X = vectorsIn (a .recs .now) (a .counts) (a .v .now) in
+    let E = recordingBy (a .records .now) (a .counts) in
+    let X = vectorsIn (a .records .now) (a .counts) (a .v .now) in
     let q : k .w ≡ size E = omega arith in
     k .inv .2 ∙ ap (λ (n : ℕ). suc (tally (waitBefore E X (a .e) (a .s)) n)) q ∙ sym (k-tally E X (a .e) (a .s))
 

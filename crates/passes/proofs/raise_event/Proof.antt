@@ -13,13 +13,13 @@ returns c =
     let a = c .before .before .before .before .before .before .before .before .before .before .before .args in
     let x = c .before .before .before .before .before .before .step-one in
     let y = c .before .before .step-two in
-    (event-raised (recordingBy (a .recs .now) (a .counts)) _ _ _ (a .e) (x .ensures .0) (y .ensures .0), rose-then (x .ensures .1) (y .ensures .1))
+    (event-raised (recordingBy (a .records .now) (a .counts)) _ _ _ (a .e) (x .ensures .0) (y .ensures .0), rose-then (x .ensures .1) (y .ensures .1))
 
 pub raise-event-spec : {M : Type 1} → statement M
 raise-event-spec =
     tie.close
     (tie.spec
-    (λ c κs. let p = c .before .before .before .before .pre in (p .0 .records, p .1, p .2))
-    (λ c κs. let p = c .before .before .before .before .before .before .before .before .pre in (p .0, c .before .before .before .step-one .kept .1 .1 .1 .0 ∙ p .1, p .2))
+    (λ c κs. let p = c .before .before .before .before .pre in (p .0 .records, p .1, p .2, p .3))
+    (λ c κs. let p = c .before .before .before .before .before .before .before .before .pre in (p .0, c .before .before .before .step-one .kept .1 .1 .1 .1 .0 ∙ p .1, p .2))
     (λ c. omega arith)
     returns)

@@ -21,7 +21,7 @@ use Rattle.passes.proofs.raise_wait.Tie as tie
 abbrev listed : tie.After-candidates → List ℕ
 listed c =
     let a = c .before .before .before .before .before .before .args in
-    candidatesOn (recordingBy (a .recs .now) (a .counts)) (vectorsIn (a .recs .now) (a .counts) (a .v .now)) (a .e) (a .s)
+    candidatesOn (recordingBy (a .records .now) (a .counts)) (vectorsIn (a .records .now) (a .counts) (a .v .now)) (a .e) (a .s)
 
 the-found : (c : tie.After-candidates) → take (c .candidates .result) (c .candidates .last .1 .1 .1 .1 .1 .1 .0) ≡ listed c
 the-found c = ap (take (c .candidates .result)) (c .candidates .ensures .1) ∙ take-at (listed c) _ _ (sym (c .candidates .ensures .0))
@@ -30,15 +30,15 @@ few : (c : tie.After-candidates) → c .candidates .result ≤ 1024
 few c =
     let s = c .before .before .before .before .before .before in
     let a = s .args in
-    omega (arith, c .candidates .ensures .0, candidates-few (recordingBy (a .recs .now) (a .counts)) (vectorsIn (a .recs .now) (a .counts) (a .v .now)) (a .e) (a .s), s .pre .0 .records .few)
+    omega (arith, c .candidates .ensures .0, candidates-few (recordingBy (a .records .now) (a .counts)) (vectorsIn (a .records .now) (a .counts) (a .v .now)) (a .e) (a .s), s .pre .0 .records .few)
 
 raise-to-kth-requires : tie.Need-raise-to-kth-requires
 raise-to-kth-requires c κs =
     let d = c .before .before .before .before .before .before in
     let s = c .before .before .before .before .before .before .before .before .before .before .before .before in
     let a = s .args in
-    let E = recordingBy (a .recs .now) (a .counts) in
-    let X = vectorsIn (a .recs .now) (a .counts) (a .v .now) in
+    let E = recordingBy (a .records .now) (a .counts) in
+    let X = vectorsIn (a .records .now) (a .counts) (a .v .now) in
     let m = a .counts .tasks in
     rw (the-found d) (
       (omega (arith, next-row (a .e) (size E) m (s .pre .2), s .pre .1), omega (arith, few d, d .candidates .ensures .0)),
@@ -50,7 +50,7 @@ returns c =
     let d = c .before .before .before .before .before .before .before .before .before in
     let s = c .before .before .before .before .before .before .before .before .before .before .before .before .before .before .before in
     let a = s .args in
-    let E = recordingBy (a .recs .now) (a .counts) in
+    let E = recordingBy (a .records .now) (a .counts) in
     let f = c .before .before .raise-to-kth in (
       ap (chunks (size E) (a .counts .tasks)) (f .ensures .0)
           ∙ chunks-waited E (a .v .now) (a .e) (a .s) (c .before .before .before .before .before .before .needed .result) _ (s .pre .1) (s .pre .2) (c .before .before .before .before .before .before .needed .ensures) (the-found d),

@@ -15,7 +15,7 @@ returns c =
     let s = c .before .before .before .before .before .before .before .before .before .before .before in
     let a = s .args in
     c .before .before .fill-row .ensures
-    ∙ ap₂ (λ (v : Event) (x : ℕ). sets (a .v .now) (a .from) (ownRow (a .counts .tasks) (v .task) x)) (c .before .before .before .before .before .before .before .event-at .ensures) (s .pre .0 .placed (a .e) (s .pre .1))
+    ∙ ap₂ (λ (v : Event) (x : ℕ). sets (a .v .now) (a .from) (ownRow (a .counts .tasks) (v .task) x)) (c .before .before .before .before .before .before .before .event-at .ensures) (s .pre .0 .kept .placed (a .e) (s .pre .1))
 
 pub start-event-spec : {M : Type 1} → statement M
 start-event-spec =
@@ -24,8 +24,8 @@ start-event-spec =
     (λ c κs. omega (arith, c .before .before .before .pre .0 .records .whole))
     (λ c. search needs)
     (λ c. search needs)
-    (λ c. omega (arith, c .before .before .before .before .before .before .before .pre .0 .room))
-    (λ c. omega (arith, c .before .before .before .before .before .before .before .before .pre .0 .room))
+    (λ c. omega (arith, c .before .before .before .before .before .before .before .pre .0 .kept .room))
+    (λ c. omega (arith, c .before .before .before .before .before .before .before .before .pre .0 .kept .room))
     (λ c κs. omega arith)
     (λ c. omega arith)
     returns)

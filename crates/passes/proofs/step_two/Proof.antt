@@ -17,9 +17,9 @@ returns : tie.Need-returns
 returns c =
     let s = c .before .before .before .before .before .before in
     let a = s .args in
-    let E = recordingBy (a .recs .now) (a .counts) in
+    let E = recordingBy (a .records .now) (a .counts) in
     let d = ap (λ (v : Event). v .kind) (c .before .before .event-at .ensures) in (
-      other-kept E (vectorsIn (a .recs .now) (a .counts) (a .v .now)) (a .e) (chunks-shaped (size E) (a .counts .tasks) (a .v .now) (s .pre .1)) (s .pre .2)
+      other-kept E (vectorsIn (a .records .now) (a .counts) (a .v .now)) (a .e) (chunks-shaped (size E) (a .counts .tasks) (a .v .now) (s .pre .1)) (s .pre .2)
           (λ q. c .if1 .taken (d ∙ q)),
       rose-none (a .v .now),
     )
@@ -27,8 +27,8 @@ returns c =
 returns-2 : tie.Need-returns-2
 returns-2 c =
     let a = c .before .before .before .before .before .before .before .before .before .before .args in
-    let E = recordingBy (a .recs .now) (a .counts) in
-    let X = vectorsIn (a .recs .now) (a .counts) (a .v .now) in
+    let E = recordingBy (a .records .now) (a .counts) in
+    let X = vectorsIn (a .records .now) (a .counts) (a .v .now) in
     let w = c .before .before .before .before .before .before .event-at .ensures in
     let f = c .before .before .raise-wait in
     (f .ensures .0 ∙ ap (λ (v : Event). waited E X (a .e) (v .object)) w ∙ wait-raised E X (a .e) (sym (ap (λ (v : Event). v .kind) w) ∙ c .before .before .before .before .if1 .left), f .ensures .1)

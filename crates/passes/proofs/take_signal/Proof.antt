@@ -29,7 +29,7 @@ returns c =
     let t = c .before .before in
     let s = t .before .before in
     let w = t .event-at .ensures in (
-      (matched-other (recordingBy (s .args .recs .now) (s .args .counts)) (s .args .e) (λ q. c .if1 .taken (ap (λ (v : Event). v .kind) w ∙ q)), tt),
+      (matched-other (recordingBy (s .args .records .now) (s .args .counts)) (s .args .e) (λ q. c .if1 .taken (ap (λ (v : Event). v .kind) w ∙ q)), tt),
       next-other _ _ _ (s .pre .2) (λ x. sym (ap (isWait x) w) ∙ no-wait x (t .event-at .result) (c .if1 .taken)),
     )
 
@@ -45,7 +45,7 @@ module _ (c : tie.Else1) where
   v = t .event-at .result
 
   abbrev E : Recording
-  E = recordingBy (s .args .recs .now) (s .args .counts)
+  E = recordingBy (s .args .records .now) (s .args .counts)
 
   abbrev object : ℕ
   object = v .object
@@ -59,19 +59,19 @@ module _ (c : tie.Else1) where
   small : object < 64
   small = omega (arith, same, s .pre .0 .waits (s .args .e) (s .pre .1) kind)
 
-  waiting : waitAt (s .args .recs .now) object (s .args .e) ≡ true
+  waiting : waitAt (s .args .records .now) object (s .args .e) ≡ true
   waiting = sym (ap (isWait object) (t .event-at .ensures)) ∙ both (eq-eqb (v .kind) 2 (c .if1 .left)) (eq-eqb object object refl)
 
-  hand : AtHand (s .args .recs .now) object (tally (waitAt (s .args .recs .now) object) (s .args .e)) (getD (s .args .chain .now) (head object) 0)
+  hand : AtHand (s .args .records .now) object (tally (waitAt (s .args .records .now) object) (s .args .e)) (getD (s .args .chain .now) (head object) 0)
   hand = s .pre .2 .heads object small
 
-  the-match : (f : Found) → f ≡ nth (signalsOn E object) (tally (waitAt (s .args .recs .now) object) (s .args .e)) → f ≡ matched E (s .args .e)
-  the-match f q = q ∙ ap (λ (x : ℕ). nth (signalsOn E x) (tally (waitAt (s .args .recs .now) x) (s .args .e))) same ∙ matched-wait E (s .args .e) kind
+  the-match : (f : Found) → f ≡ nth (signalsOn (E .events) object) (tally (waitAt (s .args .records .now) object) (s .args .e)) → f ≡ matched (E .events) (s .args .e)
+  the-match f q = q ∙ ap (λ (x : ℕ). nth (signalsOn (E .events) x) (tally (waitAt (s .args .records .now) x) (s .args .e))) same ∙ matched-wait E (s .args .e) kind
 
 returns-2 : tie.Need-returns-2
 returns-2 c =
     let d = c .before .before .before in
-    let r = s d .args .recs .now in
+    let r = s d .args .records .now in
     let n : length (eventsOf r) ≤ getD (s d .args .chain .now) (head (object d)) 0 = omega (arith, s d .pre .0 .whole) in (
       (the-match d _ (hand-none r (s d .args .counts) (object d) _ _ (hand d) n), tt),
       rw (set-getD (s d .args .chain .now) (head (object d)) 0) at
@@ -79,13 +79,13 @@ returns-2 c =
     )
 
 -- a signal is at hand
-at-hand : (c : tie.Else2) → getD (s (c .before .before .before) .args .chain .now) (head (object (c .before .before .before))) 0 < length (eventsOf (s (c .before .before .before) .args .recs .now))
+at-hand : (c : tie.Else2) → getD (s (c .before .before .before) .args .chain .now) (head (object (c .before .before .before))) 0 < length (eventsOf (s (c .before .before .before) .args .records .now))
 at-hand c = let d = c .before .before .before in omega (arith, s d .pre .0 .whole)
 
 returns-3 : tie.Need-returns-3
 returns-3 c =
     let d = c .before .before .before .before in
-    let r = s d .args .recs .now in
+    let r = s d .args .records .now in
     let l = at-hand (c .before) in (
       (the-match d _ (hand-at r (s d .args .counts) (object d) _ _ (hand d) l), l),
       next-wait r (s d .args .e) (s d .args .chain .now) (s d .pre .2) (object d) (small d) (waiting d) _

@@ -15,10 +15,10 @@ use Rattle.rules.proofs.first_fault.Statement.{statement}
 use Rattle.rules.proofs.first_fault.Tie as tie
 
 abbrev Inv-loop : tie.InvT-loop
-Inv-loop recs counts n on₀ own₀ i₀ on own i = (i ≤ n) × (Check.Passed ≡ firstFault (recordingBy recs counts) i) × Running (take i (eventsOf recs)) on own
+Inv-loop records counts n on₀ own₀ i₀ on own i = (i ≤ n) × (Check.Passed ≡ firstFault (recordingBy records counts) i) × Running (take i (eventsOf records)) on own
 
 abbrev μ-loop : tie.MeasureT-loop
-μ-loop recs counts n on₀ own₀ i₀ on own i = n - i
+μ-loop records counts n on₀ own₀ i₀ on own i = n - i
 
 loop-holds : tie.Need-loop-holds Inv-loop μ-loop
 unfolding firstFault
@@ -38,10 +38,10 @@ module _ (c : tie.After-record-check Inv-loop μ-loop) where
   abbrev s : tie.Start Inv-loop μ-loop
   s = k .before .before
 
-  the-length : length (take (k .loop .i) (eventsOf (s .args .recs .now))) ≡ k .loop .i
-  the-length = before-length (s .args .recs .now) (k .loop .i) (omega arith)
+  the-length : length (take (k .loop .i) (eventsOf (s .args .records .now))) ≡ k .loop .i
+  the-length = before-length (s .args .records .now) (k .loop .i) (omega arith)
 
-  checked : c .record-check .result ≡ recordCheck (s .args .counts) (take (k .loop .i) (eventsOf (s .args .recs .now))) (turn .event-at .result)
+  checked : c .record-check .result ≡ recordCheck (s .args .counts) (take (k .loop .i) (eventsOf (s .args .records .now))) (turn .event-at .result)
   checked = c .record-check .ensures _ (k .loop .inv .2) the-length
 
   the-small : c .record-check .result ≡ Check.Passed → Small (turn .event-at .result)
@@ -68,7 +68,7 @@ loop-again c =
     let go = next _ _ _ _ (k r .loop .inv .2) (the-small r e) in (
       omega arith,
       fault-none _ _ _ _ (k r .loop .inv .1) (turn r .event-at .ensures) (checked r) e,
-      rw (before-next (s r .args .recs .now) (k r .loop .i) _ (omega arith) (turn r .event-at .ensures), c .note .ensures .0, c .note .ensures .1) go,
+      rw (before-next (s r .args .records .now) (k r .loop .i) _ (omega arith) (turn r .event-at .ensures), c .note .ensures .0, c .note .ensures .1) go,
     )
 
 returns-2 : tie.Need-returns-2 Inv-loop μ-loop

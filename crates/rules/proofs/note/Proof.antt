@@ -2,7 +2,7 @@
 use mathlib.Core.Path.{refl}
 use native.Mathlib.Omega.{arith}
 use borrow.Author.Needs.{needs}
-use borrow.Author.Tests.{lt-ltb, le-ltb}
+use borrow.Author.Tests.{le-leb, lt-leb}
 use Rattle.rules.specs.Running.{notedOn, notedOwn}
 use Rattle.rules.proofs.note.Statement.{statement}
 use Rattle.rules.proofs.note.Tie as tie
@@ -18,11 +18,11 @@ element-write-on c = let s = c .before .before .before .before .before .before .
 
 returns : tie.Need-returns
 unfolding notedOn notedOwn
-returns c = (rw (lt-ltb _ _ (c .before .before .before .if1 .taken)), refl)
+returns c = (rw (le-leb _ _ (c .before .before .before .if1 .taken)), refl)
 
 returns-2 : tie.Need-returns-2
 unfolding notedOn notedOwn
-returns-2 c = (rw (le-ltb _ _ (c .if1 .left)), refl)
+returns-2 c = (rw (lt-leb _ _ (c .if1 .left)), refl)
 
 pub note-spec : {M : Type 1} → statement M
 note-spec =

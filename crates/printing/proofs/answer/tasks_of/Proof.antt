@@ -1,4 +1,4 @@
--- `printing::answer::tasks_of` meets its contract: the header's count, where there is a header. Assumes nothing.
+-- `printing::answer::tasks_of` meets its contract: the trailer's count, where there is a trailer. Assumes nothing.
 use mathlib.Core.Path.{sym, ap, _∙_}
 use borrow.Author.Needs.{needs}
 use Rattle.printing.specs.Answer.{tasksIn}

@@ -24,11 +24,11 @@ checked c =
     let part = c .before in
     let ranged = part .before in
     let met = ranged .before .before .before in
-    let header = met .before .before .before in
-    let known = header .before in
-    by-records _ (known .before .before .if1 .left) (edition known) _ (header .header-of .ensures .0) (met .if3 .left)
+    let trailer = met .before .before .before in
+    let known = trailer .before in
+    by-records _ (known .before .before .if1 .left) (edition known) _ (trailer .trailer-of .ensures .0) (met .if3 .left)
     (passed (ranged .before .in-range .ensures) (ranged .if4 .left)) _
-    (c .first-fault .ensures ∙ ap (λ (s : List ℕ). firstFault (recordingBy s (header .header-of .result .counts)) (header .header-of .result .records)) (part .records-of .ensures))
+    (c .first-fault .ensures ∙ ap (λ (s : List ℕ). firstFault (recordingBy s (trailer .trailer-of .result .counts)) (trailer .trailer-of .result .records)) (part .records-of .ensures))
 
 returns : tie.Need-returns
 returns c = refused-by _ _ (too-short _ (c .if1 .taken))
@@ -39,30 +39,30 @@ returns-2 c = refused-by _ _ (other-edition _ (c .before .before .if1 .left) (λ
 
 returns-3 : tie.Need-returns-3
 returns-3 c =
-    let header = c .before .before .before in
-    let known = header .before in
-    refused-by _ _ (no-extent _ (known .before .before .if1 .left) (edition known) _ (header .header-of .ensures .0) (c .if3 .taken))
+    let trailer = c .before .before .before in
+    let known = trailer .before in
+    refused-by _ _ (no-extent _ (known .before .before .if1 .left) (edition known) _ (trailer .trailer-of .ensures .0) (c .if3 .taken))
 
 returns-4 : tie.Need-returns-4
 returns-4 c =
     let met = c .before .before .before in
-    let header = met .before .before .before in
-    let known = header .before in
+    let trailer = met .before .before .before in
+    let known = trailer .before in
     refused-by _ _
-    (out-of-range _ (known .before .before .if1 .left) (edition known) _ (header .header-of .ensures .0) (met .if3 .left)
+    (out-of-range _ (known .before .before .if1 .left) (edition known) _ (trailer .trailer-of .ensures .0) (met .if3 .left)
     (failed (c .before .in-range .ensures) (c .if4 .taken)))
 
 first-fault-requires : tie.Need-first-fault-requires
 first-fault-requires c κs =
     let ranged = c .before in
-    let header = ranged .before .before .before .before .before .before in
-    let s = header .before .before .before .before .before in
-    (omega (arith, ap length (c .records-of .ensures), part-length (s .args .file .now) (header .header-of .result) (omega arith)), passed (ranged .before .in-range .ensures) (ranged .if4 .left))
+    let trailer = ranged .before .before .before .before .before .before in
+    let s = trailer .before .before .before .before .before in
+    (omega (arith, ap length (c .records-of .ensures), part-length (s .args .file .now) (trailer .trailer-of .result) (omega arith)), passed (ranged .before .in-range .ensures) (ranged .if4 .left))
 
 returns-5 : tie.Need-returns-5
 returns-5 c =
     let fault = c .before .before in
-    accepted-by _ _ (fault .before .before .before .before .before .before .before .before .header-of .ensures .0) (checked fault ∙ c .enum-told .given .1)
+    accepted-by _ _ (fault .before .before .before .before .before .before .before .before .trailer-of .ensures .0) (checked fault ∙ c .enum-told .given .1)
 
 returns-6 : tie.Need-returns-6
 returns-6 c = refused-by _ _ (checked (c .before .before .before) ∙ c .before .r .given .1)

@@ -8,7 +8,7 @@ use Rattle.recording.proofs.Files.{within, the-records, no-records}
 use Rattle.recording.proofs.reading.records.Statement.{statement}
 use Rattle.recording.proofs.reading.records.Tie as tie
 
--- the file is accepted with the header that was matched
+-- the file is accepted with the trailer that was matched
 accepted : (c : tie.After-h) → readingOf (c .before .before .before .before .args .file .now) ≡ Reading.Accepted (c .h .given .0 .0)
 accepted c = sym (c .before .before .read .ensures) ∙ c .h .given .1
 

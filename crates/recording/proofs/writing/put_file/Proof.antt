@@ -8,7 +8,7 @@ use Rattle.recording.proofs.writing.put_file.Tie as tie
 returns : tie.Need-returns
 returns c =
     let a = c .before .before .before .before .before .before .before .before .before .before .before .before .args in
-    let made = c .before .before .before .before .before .trailer in
+    let made = c .before .before .before .before .before .trailer-bytes in
     let one = c .before .before .before .before .before .before .before .before .copy-at in
     copied (a .records .now) (made .result) (a .out .now) (one .last .1 .0) _ (one .ensures) (c .before .before .copy-at2 .ensures) (a .counts) (made .ensures)
 

@@ -1,11 +1,11 @@
--- list_placed meets its contract. Assumes nothing.
+-- list_chained meets its contract. Assumes nothing.
 use native.Mathlib.Omega.{arith}
 use borrow.Author.Needs.{needs}
 use Rattle.passes.specs.Lent.{vectorsIn}
 use Rattle.pairs.proofs.Race.{list-few}
 use Rattle.pairs.proofs.Stores.{refused, listed}
-use Rattle.pairs.proofs.list_placed.Statement.{statement}
-use Rattle.pairs.proofs.list_placed.Tie as tie
+use Rattle.pairs.proofs.list_chained.Statement.{statement}
+use Rattle.pairs.proofs.list_chained.Tie as tie
 
 count-requires : tie.Need-count-requires
 count-requires c κs =
@@ -23,13 +23,13 @@ returns c = refused _ _ _ (c .before .count .ensures _) (c .if1 .taken)
 list-all-requires : tie.Need-list-all-requires
 list-all-requires c κs =
     let s = c .before .before .before .before .before .before .before .before in
-    (s .pre, omega (arith, c .before .before .count .ensures (vectorsIn (s .args .recs .now) (s .args .counts) (s .args .recorded .now))))
+    (s .pre, omega (arith, c .before .before .count .ensures (vectorsIn (s .args .records .now) (s .args .counts) (s .args .recorded .now))))
 
 returns-2 : tie.Need-returns-2
 returns-2 c =
     let k = c .before .before .before .before in
     listed _ _ _ _ _ (k .before .count .ensures _) (k .if1 .left) (c .before .before .list-all .ensures)
 
-pub list-placed-spec : {M : Type 1} → statement M
-list-placed-spec =
+pub list-chained-spec : {M : Type 1} → statement M
+list-chained-spec =
     tie.close (tie.spec count-requires mul-if1 returns list-all-requires (λ c. search needs) returns-2)

@@ -2,15 +2,15 @@
 use native.Mathlib.Omega.{arith}
 use mathlib.Core.Path.{refl}
 use Rattle.model.specs.Writing.{trailerBytes}
-use Rattle.recording.proofs.writing.trailer.Statement.{statement}
-use Rattle.recording.proofs.writing.trailer.Tie as tie
+use Rattle.recording.proofs.writing.trailer_bytes.Statement.{statement}
+use Rattle.recording.proofs.writing.trailer_bytes.Tie as tie
 
 returns : tie.Need-returns
 unfolding trailerBytes
 returns c = refl
 
-pub trailer-spec : {M : Type 1} → statement M
-trailer-spec =
+pub trailer-bytes-spec : {M : Type 1} → statement M
+trailer-bytes-spec =
     tie.close
     (tie.spec
     (λ c. omega arith)
