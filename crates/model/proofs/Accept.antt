@@ -7,7 +7,8 @@ use native.Mathlib.Nat.{not-suc-le-zero}
 use lib.Dec.{ltb}
 use lib.ListN.{take}
 use Rattle.model.specs.declared.Check.{Check}
-use Rattle.model.specs.Recording.{Recording, size, tasks, event, taskOf, knownKind, named, namesOf, classOf, lifeKept, waitKept, obeys, recordCheck, firstFault, Accepted}
+use Rattle.model.specs.Recording.{Recording, size, tasks, event, taskOf, named, namesOf, classOf, lifeKept, waitKept, obeys, recordCheck, firstFault, Accepted}
+use Rattle.model.specs.Acceptable.{Kept}
 use Rattle.model.proofs.Tests.{both, first, second, last-or-lower, ltb-true}
 use Rattle.model.proofs.Checks.{unless-passed, then-passed}
 
@@ -21,25 +22,24 @@ module _ (E : Recording) where
       (λ k. no-fault n earlier e k)
 
   module _ (acc : Accepted E) where
-    kept-at : (e : ℕ) → e < size E
-        → (knownKind (event E e) ≡ true) × (named (E .counts) (event E e) ≡ true)
-        × (lifeKept (take e (E .events)) (event E e) ≡ true) × (waitKept (take e (E .events)) (event E e) ≡ true)
-    unfolding Accepted recordCheck
+    -- each record keeps the rules
+    pub kept-at : (e : ℕ) → e < size E → Kept E e
+    unfolding Accepted recordCheck obeys
     kept-at e l =
         let (kind, a) = unless-passed _ _ _ (no-fault (size E) acc e l) in
         let (name, b) = unless-passed _ _ _ a in
-        let (life, c) = unless-passed _ _ _ b in
-        (kind, name, life, unless-passed _ _ _ c .0)
+        let (life, c) = unless-passed (lifeKept (take e (E .events)) (event E e)) _ _ b in
+        let (wait, d) = unless-passed (waitKept (take e (E .events)) (event E e)) _ _ c in
+        record { kind = kind; names = name; rules = both life wait }
 
     pub accepted-obeys : (e : ℕ) → e < size E → obeys (take e (E .events)) (event E e) ≡ true
-    unfolding obeys
-    accepted-obeys e l = let k = kept-at e l in both (k .2) (k .3)
+    accepted-obeys e l = kept-at e l .rules
 
     -- its task is below T, and its object below the names of its class
     pub task-inside : (e : ℕ) → e < size E → taskOf E e < tasks E
     unfolding named
-    task-inside e l = ltb-true (taskOf E e) (tasks E) (first (ltb (taskOf E e) (tasks E)) _ (kept-at e l .1))
+    task-inside e l = ltb-true (taskOf E e) (tasks E) (first (ltb (taskOf E e) (tasks E)) _ (kept-at e l .names))
 
     pub object-inside : (e : ℕ) → e < size E → event E e .object < namesOf (E .counts) (classOf (event E e .kind))
     unfolding named
-    object-inside e l = ltb-true _ _ (second (ltb (taskOf E e) (tasks E)) _ (kept-at e l .1))
+    object-inside e l = ltb-true _ _ (second (ltb (taskOf E e) (tasks E)) _ (kept-at e l .names))

@@ -1,4 +1,5 @@
--- The vectors climb: passes never lower a number, larger budgets keep what is settled, and N * N + 1 passes settle.
+-- The vectors climb: neither a pass nor a larger budget lowers a number, and a settled run is that of every larger budget. What
+-- holds at the start and is kept by a pass holds after any budget: one vector of T numbers for each event, and safety.
 -- Assumes nothing.
 use Prim.Native.Nat.{ℕ, zero, suc, _≤_, _<_, max, zero-le}
 use mathlib.Core.Path.{_≡_, refl, sym, ap, subst, _∙_}

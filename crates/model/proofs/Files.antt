@@ -5,7 +5,7 @@ use mathlib.Core.Path.{_≡_, refl, _∙_}
 use mathlib.Core.Bool.{true, _&&_}
 use mathlib.Core.List.{List}
 use native.Mathlib.Omega.{arith}
-use lib.Dec.{leb}
+use lib.Dec.{leb, eqb}
 use lib.ListN.{length, length-take, length-drop}
 use Rattle.model.specs.declared.Counts.{Counts}
 use Rattle.model.specs.declared.Trailer.{Trailer}
@@ -14,17 +14,10 @@ use Rattle.model.specs.declared.Reading.{Reading}
 use Rattle.model.specs.Recording.{size, noEvent, Accepted}
 use Rattle.model.specs.File.{eventAt, eventsOf, trailerAt, trailerOf, editionOf, recordBytes, recordingOf}
 use Rattle.model.specs.Reading.{extentMet, inRange, fileCheck, readingBy, readingOf}
+use Rattle.model.specs.Acceptable.{InRange}
 use Rattle.model.proofs.Tests.{first, second, leb-true, eqb-true}
 use Rattle.model.proofs.Checks.{unless-passed}
 use Rattle.model.proofs.Lists.{listOf-length}
-
--- the counts of a file with n records are within their ranges
-pub record InRange (c : Counts) (n : ℕ) : Type 0 where
-  pub some-task : 1 ≤ c .tasks
-  pub few-tasks : c .tasks ≤ 16
-  pub few-semaphores : c .semaphores ≤ 64
-  pub few-cells : c .cells ≤ 1024
-  pub few-records : n ≤ 1024
 
 pub in-range : (c : Counts) (n : ℕ) → inRange c n ≡ true → InRange c n
 unfolding inRange
@@ -51,10 +44,10 @@ pub record Sound (f : List ℕ) : Type 0 where
 pub sound : (f : List ℕ) → fileCheck f ≡ Check.Passed → Sound f
 unfolding fileCheck extentMet Accepted
 sound f h =
-    let (long, a) = unless-passed _ _ _ h in
-    let (edition, b) = unless-passed _ _ _ a in
-    let (extent, c) = unless-passed _ _ _ b in
-    let (range, d) = unless-passed _ _ _ c in
+    let (long, a) = unless-passed (leb 16 (length f)) _ _ h in
+    let (edition, b) = unless-passed (eqb (editionOf f) 1) _ _ a in
+    let (extent, c) = unless-passed (eqb (trailerOf f .start + 4 * trailerOf f .records) (trailerAt f)) _ _ b in
+    let (range, d) = unless-passed (inRange (trailerOf f .counts) (trailerOf f .records)) _ _ c in
     let l = leb-true 16 (length f) long in
     let x = eqb-true (trailerOf f .start + 4 * trailerOf f .records) (trailerAt f) extent in
     record {
@@ -83,11 +76,18 @@ pub events-length : (s : List ℕ) → length (eventsOf s) ≡ length s / 4
 unfolding eventsOf
 events-length s = listOf-length (eventAt s) noEvent (length s / 4)
 
--- the records' part has N whole records, and so many events
+-- where start and N meet the length, the records' part has N whole records, and so many events
+module _ (f : List ℕ) (met : trailerOf f .start + 4 * trailerOf f .records + 16 ≡ length f) where
+  bytes-met : length (recordBytes f (trailerOf f)) ≡ 4 * trailerOf f .records
+  unfolding recordBytes
+  bytes-met = simp (length-take, length-drop) (omega arith)
+
+  pub size-met : size (recordingOf f) ≡ trailerOf f .records
+  unfolding recordingOf
+  size-met = events-length (recordBytes f (trailerOf f)) ∙ (let l = bytes-met in omega arith)
+
 pub bytes-length : (f : List ℕ) → Sound f → length (recordBytes f (trailerOf f)) ≡ 4 * trailerOf f .records
-unfolding recordBytes
-bytes-length f s = let x = s .extent in simp (length-take, length-drop) (omega arith)
+bytes-length f s = bytes-met f (s .extent)
 
 pub size-records : (f : List ℕ) → Sound f → size (recordingOf f) ≡ trailerOf f .records
-unfolding recordingOf
-size-records f s = events-length (recordBytes f (trailerOf f)) ∙ (let l = bytes-length f s in omega arith)
+size-records f s = size-met f (s .extent)

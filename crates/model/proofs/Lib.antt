@@ -19,7 +19,10 @@ pub mod Recorded
 pub mod Forward
 pub mod Listed
 pub mod Files
+pub mod Acceptable
 pub mod Promise
+pub mod Questions
+pub mod Uncut
 pub mod RoundTrip
 pub mod Starred
 pub mod Instance

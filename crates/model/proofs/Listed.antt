@@ -1,9 +1,9 @@
 -- What stands on the list, and that a larger budget leaves no more on it.
 -- Assumes nothing.
 use Prim.Native.Nat.{ℕ, zero, suc, _<_}
-use mathlib.Core.Path.{_≡_, refl, sym, ap, subst}
+use mathlib.Core.Path.{_≡_, refl, sym, ap, ap₂, subst, _∙_}
 use mathlib.Core.Logic.{_⊎_, inl, inr}
-use mathlib.Core.Bool.{Bool, true, false, cond, not}
+use mathlib.Core.Bool.{Bool, true, false, cond, not, _&&_, and-comm, or-comm}
 use mathlib.Core.List.{List, [], _∷_, List·Memᴰ, List·Memᴰ·head, List·Memᴰ·not-nil, List·Memᴰ·eq-of-singleton, List·Memᴰ·append-cases, Memᴰ·append-left, Memᴰ·append-right}
 use native.Mathlib.Nat.{le-refl, le-trans, not-suc-le-zero}
 use native.Mathlib.Omega.{arith}
@@ -14,7 +14,7 @@ use Rattle.model.specs.Numbers.{each}
 use Rattle.model.specs.Recording.{Recording, size, cells, event, taskOf, objectOf, classOf, namesOf}
 use Rattle.model.specs.Vectors.{Vectors, number, position, ordered, unordered}
 use Rattle.model.specs.Pairs.{isAccess, isWrite, conflict, racePair, Entry, entry, entriesOf, cellEntries, entries}
-use Rattle.model.proofs.Tests.{clash, fails, of-not, to-not, both, first, second, all-three, either, last-or-lower, le-leb, leb-true, ltb-true, eqb-true, eq-eqb}
+use Rattle.model.proofs.Tests.{cases, clash, fails, of-not, to-not, both, first, second, all-three, either, last-or-lower, le-leb, leb-true, ltb-true, eqb-true, eqb-false, eq-eqb, ne-eqb}
 use Rattle.model.proofs.Climb.{AtMost}
 
 -- ---- members of joined lists
@@ -85,6 +85,13 @@ module _ (E : Recording) (X : Vectors) (a e : ℕ) (h : racePair E X a e ≡ tru
   pub pair-lower : a < e
   pair-lower = ltb-true a e (parts .0)
 
+  pub pair-apart : (ordered (E .events) X a e ≡ false) × (ordered (E .events) X e a ≡ false)
+  unfolding unordered
+  pair-apart = (
+    of-not (ordered (E .events) X a e) (first _ (not (ordered (E .events) X e a)) (parts .2)),
+    of-not (ordered (E .events) X e a) (second (not (ordered (E .events) X a e)) _ (parts .2)),
+  )
+
 -- lower numbers order less
 pub ordered-more : (E : Recording) (X Y : Vectors) → AtMost X Y → (a b : ℕ) → ordered (E .events) X a b ≡ true → ordered (E .events) Y a b ≡ true
 unfolding ordered
@@ -95,10 +102,28 @@ pub race-more : (E : Recording) (X Y : Vectors) → AtMost X Y → (a e : ℕ) �
 unfolding racePair unordered
 race-more E X Y up a e h =
     let (l, c, u) = parts E Y a e h in
-    both (both l c) (both (still a e (first _ (not (ordered (E .events) Y e a)) u)) (still e a (second (not (ordered (E .events) Y a e)) _ u)))
+    let (p, q) = pair-apart E Y a e h in
+    both (both l c) (both (still a e p) (still e a q))
   where
-    still : (a b : ℕ) → not (ordered (E .events) Y a b) ≡ true → not (ordered (E .events) X a b) ≡ true
-    still a b q = to-not (fails (ordered (E .events) X a b) (λ t. clash (ordered-more E X Y up a b t) (of-not _ q)))
+    still : (a b : ℕ) → ordered (E .events) Y a b ≡ false → not (ordered (E .events) X a b) ≡ true
+    still a b q = to-not (fails (ordered (E .events) X a b) (λ t. clash (ordered-more E X Y up a b t) q))
+
+-- a conflict, and what is not ordered, has no first and second
+eqb-turned : (m n : ℕ) → eqb m n ≡ eqb n m
+eqb-turned m n =
+    cases (eqb m n) (λ t. t ∙ sym (eq-eqb n m (sym (eqb-true m n t)))) (λ t. t ∙ sym (ne-eqb n m (λ q. eqb-false m n t (sym q))))
+
+pub conflict-turned : (v w : Event) → conflict v w ≡ conflict w v
+unfolding conflict
+conflict-turned v w =
+    ap₂ (λ (x y : Bool). x && y)
+    (ap₂ (λ (x y : Bool). x && not y)
+    (ap₂ (λ (x y : Bool). x && y) (and-comm (isAccess v) (isAccess w)) (eqb-turned (v .object) (w .object))) (eqb-turned (v .task) (w .task)))
+    (or-comm (isWrite v) (isWrite w))
+
+pub unordered-turned : (l : List Event) (X : Vectors) (a b : ℕ) → unordered l X a b ≡ unordered l X b a
+unfolding unordered
+unordered-turned l X a b = and-comm (not (ordered l X a b)) (not (ordered l X b a))
 
 -- a conflict is on a cell
 pub conflict-cell : (c : Counts) (v w : Event) → conflict v w ≡ true → namesOf c (classOf (v .kind)) ≡ c .cells

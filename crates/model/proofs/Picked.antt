@@ -7,14 +7,14 @@ use mathlib.Core.List.{List, [], _∷_, _++_, List·Memᴰ, List·Memᴰ·head, 
 use native.Mathlib.Nat.{not-suc-le-zero, zero-add, add-zero}
 use native.Mathlib.Omega.{arith}
 use lib.Dec.{ltb, eqb}
-use lib.ListN.{length, length-append}
+use lib.ListN.{length, getD, length-append}
 use Rattle.model.specs.declared.Found.{Found}
 use Rattle.model.specs.Numbers.{bit, sum, tally, count, each, picked, nth}
 use Rattle.model.specs.Orders.{place, occurrences}
-use Rattle.model.proofs.Tests.{cases, clash, to-not, both, and-true, and-fails, bit-true, bit-false, bit-pos, first, second, tests, bits, last-or-lower, eqb-true, eq-eqb, lt-ltb, le-ltb, ltb-true}
+use Rattle.model.proofs.Tests.{cases, clash, to-not, both, and-true, and-fails, bit-true, bit-false, bit-le, bit-pos, first, second, tests, bits, last-or-lower, eqb-true, eq-eqb, lt-ltb, le-ltb, ltb-true}
 use Rattle.model.proofs.Counting.{count-append}
-use Rattle.model.proofs.Sum.{ranked, rank-rises}
-use Rattle.model.proofs.Place.{place-lt, place-here, place-there}
+use Rattle.model.proofs.Sum.{sum-bound, ranked, rank-rises}
+use Rattle.model.proofs.Place.{place-lt, place-here, place-there, at-occurs}
 
 mem-occurs : (e : ℕ) (l : List ℕ) → List·Memᴰ e l → 0 < occurrences e l
 unfolding count
@@ -111,12 +111,18 @@ module _ (p : ℕ → Bool) where
       left : (e : ℕ) → e < n → p e ≡ true → place (picked p (suc n)) e ≡ place (picked p n) e
       left e m q = ap (λ (l : List ℕ). place l e) (picked-suc n) ∙ place-left e (picked p n) (one n) (picked-has e n m q)
 
-  pub picked-mem : (e n : ℕ) → List·Memᴰ e (picked p n) → (e < n) × (p e ≡ true)
-  picked-mem e n m =
+  -- each is below n and passes
+  picked-of : (e n : ℕ) → 0 < occurrences e (picked p n) → (e < n) × (p e ≡ true)
+  picked-of e n h =
       let o = picked-occurs e n in
-      let h = mem-occurs e (picked p n) m in
       let t = bit-pos (p e && ltb e n) (omega arith) in
       (ltb-true e n (second (p e) (ltb e n) t), first (p e) (ltb e n) t)
+
+  pub picked-mem : (e n : ℕ) → List·Memᴰ e (picked p n) → (e < n) × (p e ≡ true)
+  picked-mem e n m = picked-of e n (mem-occurs e (picked p n) m)
+
+  pub picked-below : (n i : ℕ) → i < length (picked p n) → getD (picked p n) i 0 < n
+  picked-below n i h = picked-of (getD (picked p n) i 0) n (at-occurs (picked p n) i h) .0
 
   -- a count over them is a tally
   pub count-picked : (q : ℕ → Bool) (n : ℕ) → count q (picked p n) ≡ tally (λ e. p e && q e) n
@@ -139,6 +145,9 @@ module _ (p : ℕ → Bool) where
       last : (b : Bool) → length (cond b (n ∷ []) []) ≡ bit b
       last true = refl
       last false = refl
+
+  pub picked-few : (n : ℕ) → length (picked p n) ≤ n
+  picked-few n = let a = picked-length n in let b = sum-bound (λ e. bit (p e)) 1 n (λ e l. bit-le (p e) true (λ _. refl)) in omega arith
 
   -- the number of rank k stands at place k
   nth-rank : (n s : ℕ) → s < n → p s ≡ true → nth (picked p n) (tally p s) ≡ Found.At s

@@ -68,7 +68,7 @@ at-place e [] h = absurd (not-suc-le-zero h)
 at-place e (x ∷ o) h =
     cases (eqb e x) (λ t. rw (place-here e x o t) (sym (eqb-true e x t))) (λ t. rw (place-there e x o t) (at-place e o (omega bits)))
 
-at-occurs : (o : List ℕ) (i : ℕ) → i < length o → 0 < occurrences (getD o i 0) o
+pub at-occurs : (o : List ℕ) (i : ℕ) → i < length o → 0 < occurrences (getD o i 0) o
 unfolding count
 at-occurs [] i h = absurd (not-suc-le-zero h)
 at-occurs (x ∷ o) zero h = let b = bit-true (eq-eqb x x refl) in omega arith

@@ -1,5 +1,5 @@
--- Demand 3: the promises hold of every accepted file and of every budget. Off the list is by soundness, sure by the order that
--- brings the later event forward, the budgets by climbing and by the bound on the sum of all numbers.
+-- Demand 3: the promises hold of every accepted file and of every budget. Off the list is by soundness, sure by the orders that
+-- bring either event forward, the budgets by climbing and by the bound on the sum of all numbers.
 -- Assumes nothing.
 use Prim.Native.Nat.{ℕ, _≤_, _<_}
 use mathlib.Core.Path.{_≡_, refl, sym, ap, subst, subst₂, _∙_}
@@ -15,15 +15,15 @@ use Rattle.model.specs.Passes.{Run, needed, candidates, stepOne, passTo,
 use Rattle.model.specs.Recorded.{recorded}
 use Rattle.model.specs.Pairs.{Entry, conflict, racePair, mark, entries, listed, OnList}
 use Rattle.model.specs.Promise.{Promise, Promised}
-use Rattle.model.proofs.Tests.{cases, of-not, to-not, both, first, and-false, lt-ltb, ne-eqb}
+use Rattle.model.proofs.Tests.{cases, of-not, to-not, both, first, second, and-false, lt-ltb, ne-eqb}
 use Rattle.model.proofs.Accept.{object-inside}
-use Rattle.model.proofs.FileOrder.{fileOrder, file-admissible, file-precedes, file-lower}
+use Rattle.model.proofs.FileOrder.{fileOrder, file-admissible, file-lower}
 use Rattle.model.proofs.Sound.{passTo-length, ordered-precedes, step-one, passTo-safe, enough}
 use Rattle.model.proofs.Climb.{run-shaped, run-safe, settled-stays, budget-up}
 use Rattle.model.proofs.Settle.{settles}
 use Rattle.model.proofs.Recorded.{upTo}
 use Rattle.model.proofs.Forward.{bringForward, forward-admissible, forward-precedes}
-use Rattle.model.proofs.Listed.{entry-of, entry-in, pair-lower, ordered-more, race-more, conflict-cell}
+use Rattle.model.proofs.Listed.{entry-of, entry-in, pair-lower, race-more, conflict-cell}
 use Rattle.model.proofs.Files.{accepted-recording}
 use lib.ListN.{length}
 
@@ -47,7 +47,7 @@ module _ (E : Recording) (acc : Accepted E) where
   -- ---- off the list
 
   -- a conflicting pair that neither way is ordered is on the list
-  put : (b a e : ℕ) → a < e → e < size E → conflict (event E a) (event E e) ≡ true
+  pub put : (b a e : ℕ) → a < e → e < size E → conflict (event E a) (event E e) ≡ true
       → ordered (E .events) (run E b .vectors) a e ≡ false → ordered (E .events) (run E b .vectors) e a ≡ false → OnList E a e b (mark E (recorded E) a e)
   unfolding listed racePair unordered
   put b a e k l t p q =
@@ -66,34 +66,39 @@ module _ (E : Recording) (acc : Accepted E) where
 
   -- ---- sure
 
-  -- where the recorded vectors do not order a pair, both orders are admissible
-  both-ways : (a e : ℕ) → a < e → e < size E → mark E (recorded E) a e ≡ 1 → Sometimes E a e × Sometimes E e a
-  unfolding mark unordered ordered
-  both-ways a e less l m =
-      let apart = of-not (ordered (E .events) (recorded E) a e) (first _ (not (ordered (E .events) (recorded E) e a)) (is-sure _ m)) in
-      let behind = and-false (not (eqb a e)) (upTo E (recorded E) e a) apart (to-not (ne-eqb a e (λ q. omega arith))) in
-      ((fileOrder E, file, file-precedes E a e less l), (bringForward E (recorded E) e, forward-admissible E acc e l, forward-precedes E acc e l a behind))
-    where
-      is-sure : (b : Bool) → _≡_ {A = ℕ} (cond b 1 0) 1 → b ≡ true
-      is-sure true q = refl
-      is-sure false q = absurd (omega arith)
+  -- where the recorded vectors do not order a before e, some admissible order puts e first
+  other-way : (a e : ℕ) → e < size E → ¬ (a ≡ e) → ordered (E .events) (recorded E) a e ≡ false → Sometimes E e a
+  unfolding ordered
+  other-way a e l d apart =
+      let behind = and-false (not (eqb a e)) (upTo E (recorded E) e a) apart (to-not (ne-eqb a e d)) in
+      (bringForward E (recorded E) e, forward-admissible E acc e l, forward-precedes E acc e l a behind)
+
+  -- where they do not order a pair, both orders are admissible
+  pub both-ways : (a e : ℕ) → a < size E → e < size E → ¬ (a ≡ e) → unordered (E .events) (recorded E) a e ≡ true → Sometimes E a e × Sometimes E e a
+  unfolding unordered
+  both-ways a e k l d u = (
+    other-way e a k (λ q. d (sym q)) (of-not _ (second (not (ordered (E .events) (recorded E) a e)) _ u)),
+    other-way a e l d (of-not _ (first (not (ordered (E .events) (recorded E) a e)) _ u)),
+  )
 
   sure : (b : ℕ) (p : Entry) → List·Memᴰ p (listed E b) → p .mark ≡ 1 → Sometimes E (p .first) (p .second) × Sometimes E (p .second) (p .first)
-  unfolding listed
+  unfolding listed mark
   sure b p m q =
       let r = entry-of E (run E b .vectors) (recorded E) p m in
-      let (f, g) = both-ways (r .a) (r .e) (pair-lower E (run E b .vectors) (r .a) (r .e) (r .race)) (r .higher) (sym (ap (λ (x : Entry). x .mark) (r .same)) ∙ q) in
+      let less = pair-lower E (run E b .vectors) (r .a) (r .e) (r .race) in
+      let top = r .higher in
+      let (f, g) = both-ways (r .a) (r .e) (omega arith) top (λ z. omega arith) (is-sure _ (sym (ap (λ (x : Entry). x .mark) (r .same)) ∙ q)) in
       let u = sym (ap (λ (x : Entry). x .first) (r .same)) in
       let v = sym (ap (λ (x : Entry). x .second) (r .same)) in
       (subst₂ (Sometimes E) u v f, subst₂ (Sometimes E) v u g)
+    where
+      is-sure : (t : Bool) → _≡_ {A = ℕ} (cond t 1 0) 1 → t ≡ true
+      is-sure true z = refl
+      is-sure false z = absurd (omega arith)
 
 -- ---- larger budgets
 
 module _ (E : Recording) where
-  -- ordered before is kept by a larger budget
-  pub ordered-stays : (b d : ℕ) → b ≤ d → (a e : ℕ) → ordered (E .events) (run E b .vectors) a e ≡ true → ordered (E .events) (run E d .vectors) a e ≡ true
-  ordered-stays b d h = ordered-more E (run E b .vectors) (run E d .vectors) (budget-up E b d h)
-
   -- an entry of a larger budget is one of the smaller, with its mark
   entry-stays : (b d : ℕ) → b ≤ d → (p : Entry) → List·Memᴰ p (listed E d) → List·Memᴰ p (listed E b)
   unfolding listed
@@ -109,22 +114,27 @@ module _ (E : Recording) where
   adds-none b d h a e m (inl k) = inl (entry-stays b d h _ k)
   adds-none b d h a e m (inr k) = inr (entry-stays b d h _ k)
 
-  -- an entry names the lower event first, and its mark is that of the two
-  entry-mark : (b a e m : ℕ) → List·Memᴰ (record { first = a; second = e; mark = m }) (listed E b) → (a < e) × (m ≡ mark E (recorded E) a e)
+  -- an entry is that of a race pair, and its mark is that of the two
+  pub entry-race : (b a e m : ℕ) → List·Memᴰ (record { first = a; second = e; mark = m }) (listed E b)
+      → (racePair E (run E b .vectors) a e ≡ true) × (m ≡ mark E (recorded E) a e)
   unfolding listed
-  entry-mark b a e m k =
+  entry-race b a e m k =
       let r = entry-of E (run E b .vectors) (recorded E) (record { first = a; second = e; mark = m }) k in
       let u = sym (ap (λ (x : Entry). x .first) (r .same)) in
       let v = sym (ap (λ (x : Entry). x .second) (r .same)) in (
-        subst₂ (λ (x y : ℕ). x < y) u v (pair-lower E (run E b .vectors) (r .a) (r .e) (r .race)),
+        subst₂ (λ (x y : ℕ). racePair E (run E b .vectors) x y ≡ true) u v (r .race),
         ap (λ (x : Entry). x .mark) (r .same) ∙ subst₂ (λ (x y : ℕ). mark E (recorded E) (r .a) (r .e) ≡ mark E (recorded E) x y) u v refl,
       )
 
+  -- it names the lower event first
+  entry-lower : (b a e m : ℕ) → List·Memᴰ (record { first = a; second = e; mark = m }) (listed E b) → a < e
+  entry-lower b a e m k = pair-lower E (run E b .vectors) a e (entry-race b a e m k .0)
+
   one-mark : (b d a e m n : ℕ) → OnList E a e d m → OnList E a e b n → m ≡ n
-  one-mark b d a e m n (inl k) (inl l) = entry-mark d a e m k .1 ∙ sym (entry-mark b a e n l .1)
-  one-mark b d a e m n (inl k) (inr l) = let x = entry-mark d a e m k .0 in let y = entry-mark b e a n l .0 in absurd (omega arith)
-  one-mark b d a e m n (inr k) (inl l) = let x = entry-mark d e a m k .0 in let y = entry-mark b a e n l .0 in absurd (omega arith)
-  one-mark b d a e m n (inr k) (inr l) = entry-mark d e a m k .1 ∙ sym (entry-mark b e a n l .1)
+  one-mark b d a e m n (inl k) (inl l) = entry-race d a e m k .1 ∙ sym (entry-race b a e n l .1)
+  one-mark b d a e m n (inl k) (inr l) = let x = entry-lower d a e m k in let y = entry-lower b e a n l in absurd (omega arith)
+  one-mark b d a e m n (inr k) (inl l) = let x = entry-lower d e a m k in let y = entry-lower b a e n l in absurd (omega arith)
+  one-mark b d a e m n (inr k) (inr l) = entry-race d e a m k .1 ∙ sym (entry-race b e a n l .1)
 
   keeps-list : (b d : ℕ) → b ≤ d → run E b .settled ≡ true → listed E d ≡ listed E b
   unfolding listed

@@ -1,5 +1,6 @@
 -- Before the first pass and after any whole pass vectors rise along each task: an event has at least the numbers of those
--- before it in its task. In the middle of a pass this need not hold. Assumes nothing.
+-- before it in its task. In the middle of a pass this need not hold. (For requests 4, 9 and 12.)
+-- Assumes nothing.
 use Prim.Native.Nat.{ℕ, zero, suc, _≤_, _<_, zero-le}
 use mathlib.Core.Path.{_≡_, refl, sym, ap, _∙_}
 use mathlib.Core.Bool.{cond}

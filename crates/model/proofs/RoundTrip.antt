@@ -18,9 +18,10 @@ use Rattle.model.specs.declared.Written.{Written}
 use Rattle.model.specs.Numbers.{listFrom, listOf}
 use Rattle.model.specs.File.{u16At, u32At, trailerAt, trailerOf, editionOf, recordBytes, recordingOf}
 use Rattle.model.specs.Reading.{extentMet, inRange, fileCheck, readingBy, readingOf, recordsOf}
+use Rattle.model.specs.Acceptable.{InRange}
 use Rattle.model.specs.Writing.{u16Bytes, u32Bytes, trailerBytes, fileOf, recordsCheck, writingCheck, writtenBy, writtenOf, outAfterWriting}
 use Rattle.model.specs.RoundTrip.{Fits, Bytes, RoundTrip}
-use Rattle.model.proofs.Tests.{le-leb, eqb-true, eq-eqb}
+use Rattle.model.proofs.Tests.{cases, tests, le-leb, eqb-true, eq-eqb, ne-eqb}
 use Rattle.model.proofs.Checks.{unless-passed, then-passed}
 use Rattle.model.proofs.Lists.{listOf-length, listOf-at}
 use Rattle.model.proofs.Files.{in-range, Sound, sound, reading-passed, bytes-length}
@@ -39,10 +40,17 @@ u32-after s m i =
     ap₂ (λ (a b : ℕ). a + 65536 * b) (u16-after s m i)
     (ap (u16At (s ++ m)) (add-assoc (length s) i 2) ∙ u16-after s m (i + 2))
 
-in-range-fits : (s : List ℕ) (c : Counts) → inRange c (length s / 4) ≡ true → Fits s c
-in-range-fits s c h =
-    let r = in-range c (length s / 4) h in
+-- counts within their ranges fit
+fits-by : (s : List ℕ) (c : Counts) → InRange c (length s / 4) → Fits s c
+fits-by s c r =
     record { tasks = omega (arith, r .few-tasks); semaphores = omega (arith, r .few-semaphores); cells = omega (arith, r .few-cells); records = omega (arith, r .few-records) }
+
+-- and so do those of a file that reading accepts
+fits-of : (f : List ℕ) → Sound f → Fits (recordBytes f (trailerOf f)) (trailerOf f .counts)
+fits-of f ok =
+    let l = bytes-length f ok in
+    fits-by (recordBytes f (trailerOf f)) (trailerOf f .counts)
+    (subst (InRange (trailerOf f .counts)) (let n : trailerOf f .records ≡ length (recordBytes f (trailerOf f)) / 4 = omega arith in n) (ok .range))
 
 abbrev trailer : ℕ → ℕ → ℕ → ℕ → ℕ → Trailer
 trailer a n t s c = record { start = a; records = n; counts = record { tasks = t; semaphores = s; cells = c } }
@@ -50,13 +58,6 @@ trailer a n t s c = record { start = a; records = n; counts = record { tasks = t
 same-trailer : {a b n m t u s v c w : ℕ} → a ≡ b → n ≡ m → t ≡ u → s ≡ v → c ≡ w → trailer a n t s c ≡ trailer b m u v w
 same-trailer {a} {b} {n} {m} {t} {u} {s} {v} {c} {w} p q r x y =
     ap₂ (λ (i j : ℕ). trailer i j t s c) p q ∙ ap₂ (λ (i j : ℕ). trailer b m i j c) r x ∙ ap (λ (i : ℕ). trailer b m u v i) y
-
--- those of a file that reading accepts do
-fits-of : (f : List ℕ) → Sound f → Fits (recordBytes f (trailerOf f)) (trailerOf f .counts)
-fits-of f ok =
-    let r = ok .range in
-    let l = bytes-length f ok in
-    record { tasks = omega (arith, r .few-tasks); semaphores = omega (arith, r .few-semaphores); cells = omega (arith, r .few-cells); records = omega (arith, r .few-records) }
 
 module _ (s : List ℕ) (c : Counts) where
   pub file-length : length (fileOf s c) ≡ length s + 16
@@ -94,19 +95,25 @@ module _ (s : List ℕ) (c : Counts) where
     written-bytes whole =
         ap (recordBytes (fileOf s c)) written-trailer ∙ take-at s (trailerBytes (length s / 4) c) (4 * (length s / 4)) (omega arith)
 
-    -- what writing refuses is exactly what reading the file it would have written refuses
-    pub same-check : length s % 4 ≡ 0 → fileCheck (fileOf s c) ≡ recordsCheck s c
-    unfolding fileCheck recordsCheck extentMet recordingOf
-    same-check whole =
+    -- its extent is met exactly where the record bytes are whole records
+    written-extent : extentMet (fileOf s c) ≡ eqb (length s % 4) 0
+    unfolding extentMet
+    written-extent =
         let f = fileOf s c in
         let l = file-length in
-        let h = written-trailer in
-        let long : leb 16 (length f) ≡ true = le-leb 16 (length f) (omega arith) in
-        let edition : eqb (editionOf f) 1 ≡ true = eq-eqb (editionOf f) 1 written-edition in
-        let extent : eqb (trailerOf f .start + 4 * trailerOf f .records) (trailerAt f) ≡ true =
-        ap (λ (x : Trailer). eqb (x .start + 4 * x .records) (trailerAt f)) h ∙ eq-eqb (0 + 4 * (length s / 4)) (trailerAt f) (omega arith) in
-        let b = written-bytes whole in
-        rw (long, edition, extent, b, h, eq-eqb (length s % 4) 0 whole)
+        ap (λ (x : Trailer). eqb (x .start + 4 * x .records) (trailerAt f)) written-trailer
+        ∙ cases (eqb (length s % 4) 0) (λ t. eq-eqb (0 + 4 * (length s / 4)) (trailerAt f) (omega tests) ∙ sym t)
+        (λ t. ne-eqb (0 + 4 * (length s / 4)) (trailerAt f) (λ q. omega tests) ∙ sym t)
+
+    -- what writing refuses is exactly what reading the file it would have written refuses
+    pub same-check : fileCheck (fileOf s c) ≡ recordsCheck s c
+    unfolding fileCheck recordsCheck recordingOf
+    same-check =
+        let l = file-length in
+        let long : leb 16 (length (fileOf s c)) ≡ true = le-leb 16 (length (fileOf s c)) (omega arith) in
+        let edition : eqb (editionOf (fileOf s c)) 1 ≡ true = eq-eqb (editionOf (fileOf s c)) 1 written-edition in
+        cases (eqb (length s % 4) 0) (λ t. rw (long, edition, written-extent, t, written-bytes (eqb-true _ _ t), written-trailer))
+        (λ t. rw (long, edition, written-extent, t))
 
 -- ---- writing what was read
 
@@ -211,8 +218,8 @@ read-written s c out n q =
     let (whole, a) = unless-passed (eqb (length s % 4) 0) _ _ checked in
     let (range, b) = unless-passed (inRange c (length s / 4)) _ _ a in
     let divided = eqb-true (length s % 4) 0 whole in
-    let fits = in-range-fits s c range in
-    let same : fileCheck (fileOf s c) ≡ Check.Passed = same-check s c fits divided ∙ checked in (
+    let fits = fits-by s c (in-range c (length s / 4) range) in
+    let same : fileCheck (fileOf s c) ≡ Check.Passed = same-check s c fits ∙ checked in (
       long ∙ sym (file-length s c),
       rw (passed, long),
       rw (same, written-trailer s c fits),
@@ -231,7 +238,7 @@ write-read f bytes h q none out room =
     let l = bytes-length f ok in
     let again = written-again f bytes ok (ap (λ (x : Trailer). x .start) own ∙ none) in
     let n = sym (file-length s c) ∙ ap length again in
-    let checked : recordsCheck s c ≡ Check.Passed = sym (same-check s c (fits-of f ok) (omega arith)) ∙ ap fileCheck again ∙ passed in
+    let checked : recordsCheck s c ≡ Check.Passed = sym (same-check s c (fits-of f ok)) ∙ ap fileCheck again ∙ passed in
     let roomy : leb (length s + 16) (length out) ≡ true = le-leb (length s + 16) (length out) (omega arith) in
     rw (passed, sym own, checked, roomy, n, again) (refl, refl)
   where
@@ -239,4 +246,4 @@ write-read f bytes h q none out room =
     trailer-of p q = let r = sym (ap (readingBy (trailerOf f)) p) ∙ q in cc
 
 pub round-trip : RoundTrip
-round-trip = record { read-written = read-written; write-read = write-read; same-refusals = λ s c whole fits. same-check s c fits whole }
+round-trip = record { read-written = read-written; write-read = write-read; same-refusals = same-check }

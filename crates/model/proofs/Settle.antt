@@ -115,23 +115,10 @@ module _ (E : Recording) where
       cases (run E b .settled) (λ q. q)
       (λ q. let a = unsettled-total b q in let c = total-bound o (run E b .vectors) (run-safe E o adm b) in absurd (omega arith))
 
-  -- a settled run's vectors are kept by a pass
+  -- a settled run's vectors are kept by a pass (for requests 4, 12 and 13)
   pub settled-quiet : (b : ℕ) → run E b .settled ≡ true → pass E (run E b .vectors) ≡ run E b .vectors
   unfolding run
   settled-quiet zero h = clash h refl
   settled-quiet (suc b) h =
       run-next E (λ r. r .settled ≡ true → pass E (r .vectors) ≡ r .vectors) b (λ q r. settled-quiet b q)
       (λ q r. ap (pass E) (sym (same-eq (run E b .vectors) (pass E (run E b .vectors)) r))) h
-
-  -- ---- passes made
-
-  pub passes-made : (b : ℕ) → run E b .passes ≤ b
-  unfolding run
-  passes-made zero = zero-le
-  passes-made (suc b) = let h = passes-made b in run-next E (λ r. r .passes ≤ suc b) b (λ q. omega arith) (λ q. omega arith)
-
-  pub passes-spent : (b : ℕ) → run E b .settled ≡ false → run E b .passes ≡ b
-  unfolding run
-  passes-spent zero h = refl
-  passes-spent (suc b) h =
-      run-next E (λ r. r .settled ≡ false → r .passes ≡ suc b) b (λ q r. clash q r) (λ q r. ap suc (passes-spent b q)) h

@@ -31,7 +31,7 @@ seen E o e t = tally (λ a. ofTask t (event E a) && leb (place o a) (place o e))
 abbrev pub Safe : Recording → List ℕ → Vectors → Type 0
 Safe E o X = (e t : ℕ) → e < size E → number X e t ≤ seen E o e t
 
--- a candidate is an event of the file, a signal on e's semaphore
+-- a candidate is an event of the file
 candidate-inside : (E : Recording) (X : Vectors) (e s : ℕ) → List·Memᴰ s (candidates E X e) → s < size E
 unfolding candidates signalsOn
 candidate-inside E X e s m =

@@ -71,8 +71,6 @@ of-found (Found.At x) h = ap (λ (y : ℕ). Found.At y) (sym (List·Memᴰ·eq-o
 pub in-found : {s : ℕ} {m : Found} → m ≡ Found.At s → List·Memᴰ s (found m)
 in-found {s} {m} q = subst (λ (m : Found). List·Memᴰ s (found m)) (sym q) (List·Memᴰ·head refl)
 
--- what a join adds
-
 pub source-of : (E : Recording) (e s : ℕ) → List·Memᴰ s (sources (E .events) e) → Source E e s
 unfolding sources
 source-of E e s h = either (List·Memᴰ·append-cases (found (beforeOrFork (E .events) e)) h)

@@ -3,6 +3,7 @@ pub mod Refusals
 pub mod Recording
 pub mod File
 pub mod Reading
+pub mod Acceptable
 pub mod Walking
 pub mod Orders
 pub mod Vectors
@@ -14,5 +15,7 @@ pub mod Question
 pub mod Writing
 pub mod Text
 pub mod Report
+pub mod Uncut
 pub mod RoundTrip
 pub mod Promise
+pub mod Questions

@@ -5,7 +5,7 @@ use mathlib.Core.Bool.{Bool, true, false}
 use Rattle.model.specs.declared.Refusal.{Refusal}
 use Rattle.model.specs.declared.Check.{Check}
 
--- No.
+-- the number of each refusal in the table
 abbrev pub numberOf : Refusal → ℕ
 numberOf Refusal.Short = 1
 numberOf Refusal.Edition = 2

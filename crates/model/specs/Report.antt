@@ -65,13 +65,17 @@ abbrev pub reportBy : Recording → ℕ → Check → List ℕ
 reportBy E budget Check.Passed = resultText E budget
 reportBy E budget (Check.Failed r) = refusalLine r
 
--- a file of more than 16,384 bytes is too long, and then nothing else is computed
+-- the program reads files of at most so many bytes
+abbrev pub mostBytes : ℕ
+mostBytes = 16384
+
+-- a longer file is too long, and then nothing else is computed
 abbrev pub ifLong : {A : Type 0} → Bool → A → (Unit {0} → A) → A
 ifLong true long rest = long
 ifLong false long rest = rest tt
 
 unfoldable pub isLong : List ℕ → Bool
-isLong f = ltb 16384 (length f)
+isLong f = ltb mostBytes (length f)
 
 -- what the program prints of a file, with these work numbers and this list lent
 unfoldable pub reportOf : List ℕ → List ℕ → List ℕ → List ℕ

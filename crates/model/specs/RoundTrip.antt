@@ -1,6 +1,6 @@
 -- Writing and reading (document 01, Two events, writing, printing), as one statement.
 -- Assumes nothing.
-use Prim.Native.Nat.{ℕ, _/_, _%_, _≤_, _<_}
+use Prim.Native.Nat.{ℕ, _/_, _≤_, _<_}
 use mathlib.Core.Path.{_≡_}
 use mathlib.Core.List.{List, _++_}
 use lib.ListN.{length, getD, drop}
@@ -31,5 +31,5 @@ pub record RoundTrip : Type 0 where
   -- rewriting an accepted file with start 0 gives its bytes
   pub write-read : (f : List ℕ) → Bytes f → (h : Trailer) → readingOf f ≡ Reading.Accepted h → h .start ≡ 0 → (out : List ℕ) → length f ≤ length out
       → (writtenOf (recordsOf f) (h .counts) out ≡ Written.Length (length f)) × (outAfterWriting (recordsOf f) (h .counts) out ≡ f ++ drop (length f) out)
-  -- by 4 to 8 writing refuses exactly what reading the file that it would have written refuses
-  pub same-refusals : (s : List ℕ) (c : Counts) → length s % 4 ≡ 0 → Fits s c → fileCheck (fileOf s c) ≡ recordsCheck s c
+  -- by 3 to 8 writing refuses exactly what reading the file that it would have written refuses
+  pub same-refusals : (s : List ℕ) (c : Counts) → Fits s c → fileCheck (fileOf s c) ≡ recordsCheck s c

@@ -1,0 +1,52 @@
+-- A file is accepted exactly when its rules hold (document 01, The recording file and What an acceptable recording obeys).
+-- The rules are in the order of the refusal table, 1 to 8; the tests that they cite are those of reading and of admissible orders.
+-- Assumes nothing.
+use Prim.Native.Nat.{ℕ, _+_, _*_, _≤_, _<_}
+use mathlib.Core.Path.{_≡_}
+use mathlib.Core.Bool.{true}
+use mathlib.Core.List.{List}
+use mathlib.Core.Logic.{_↔_}
+use lib.ListN.{length, take}
+use Rattle.model.specs.declared.Counts.{Counts}
+use Rattle.model.specs.declared.Reading.{Reading}
+use Rattle.model.specs.Recording.{Recording, event, knownKind, named, obeys}
+use Rattle.model.specs.File.{trailerOf, editionOf, recordingOf}
+use Rattle.model.specs.Reading.{mostTasks, mostSemaphores, mostCells, mostEvents, readingOf}
+
+-- the counts of a file with n records are within their ranges
+pub record InRange (c : Counts) (n : ℕ) : Type 0 where
+  -- tasks 1 to 16
+  pub some-task : 1 ≤ c .tasks
+  pub few-tasks : c .tasks ≤ mostTasks
+  -- semaphores 0 to 64
+  pub few-semaphores : c .semaphores ≤ mostSemaphores
+  -- cells 0 to 1,024
+  pub few-cells : c .cells ≤ mostCells
+  -- N, the number of records, 0 to 1,024
+  pub few-records : n ≤ mostEvents
+
+-- what record e of a recording obeys
+pub record Kept (E : Recording) (e : ℕ) : Type 0 where
+  -- its kind is 1 to 6
+  pub kind : knownKind (event E e) ≡ true
+  -- its task and its object are below their counts
+  pub names : named (E .counts) (event E e) ≡ true
+  -- the four rules, over the records before it
+  pub rules : obeys (take e (E .events)) (event E e) ≡ true
+
+-- the rules of a file
+pub record Acceptable (f : List ℕ) : Type 0 where
+  -- it has the 16 bytes of a trailer
+  pub long : 16 ≤ length f
+  -- its edition is 1
+  pub edition : editionOf f ≡ 1
+  -- start + 4 × N = length - 16, as whole numbers
+  pub extent : trailerOf f .start + 4 * trailerOf f .records + 16 ≡ length f
+  -- its counts are within their ranges
+  pub range : InRange (trailerOf f .counts) (trailerOf f .records)
+  -- each of its N records obeys the rules
+  pub records : (e : ℕ) → e < trailerOf f .records → Kept (recordingOf f) e
+
+-- the statement, proved as `accepted-exactly` in proofs/Acceptable.antt
+abbrev pub AcceptedExactly : Type 0
+AcceptedExactly = (f : List ℕ) → Acceptable f ↔ (readingOf f ≡ Reading.Accepted (trailerOf f))
