@@ -26,6 +26,9 @@ pub const MOST_CELLS: u16 = 1024;
 
 pub const MOST_EVENTS: usize = 1024;
 
+// The most bytes of a file that the program reads.
+pub const MOST_BYTES: usize = 16384;
+
 // An event is one record of a recording.
 pub struct Event {
     pub task: u8,

@@ -4,10 +4,8 @@ use Prim.Native.Nat.{ℕ, zero, suc, _+_, _*_, _≤_, _<_, zero-le, max}
 use mathlib.Core.Path.{_≡_, refl, sym, ap, ap₂, _∙_}
 use mathlib.Core.Bool.{Bool, true, false, cond, not, _&&_}
 use mathlib.Core.List.{List, [], _∷_, _++_, map, append-nil, append-assoc}
-use native.Mathlib.Nat.{not-suc-le-zero}
 use native.Mathlib.Numerals.{add-one}
-use native.Mathlib.Omega.{arith}
-use lib.ListN.{length, getD, set, drop, length-append}
+use lib.ListN.{length, getD, set, drop}
 use lib.Seq.{set-at, set-set, drop-cons}
 use Rattle.model.specs.Numbers.{tally, filter, each, picked, kthLeast}
 use Rattle.model.specs.Recording.{Recording, size, tasks, event, kindOf, objectOf, isSignal, isWait}
@@ -15,7 +13,7 @@ use Rattle.model.specs.Vectors.{Vectors, number, ordered}
 use Rattle.model.specs.Passes.{signalsOn, waitsOn, kOf, needed, candidates, served, stepOne, raised}
 use Rattle.model.proofs.Tests.{cases, eq-eqb, ne-eqb}
 use Rattle.model.proofs.Least.{kth-zero}
-use Rattle.model.proofs.Picked.{count-picked}
+use Rattle.model.proofs.Picked.{count-picked, picked-few, picked-below}
 use Rattle.model.proofs.Climb.{Shaped}
 use Rattle.vectors.specs.Rows.{chunks, column, raisedAt, raisedTo}
 use Rattle.vectors.proofs.Chunks.{chunks-shaped, column-chunks}
@@ -23,12 +21,6 @@ use Rattle.vectors.proofs.Raised.{raisedTo-alike, raisedTo-none, chunks-raised}
 use Rattle.passes.specs.Steps.{waitBefore, candidate, candidatesOn, waited, stepTwo, raisedEvent}
 
 -- ---- numbers picked one after another
-
-last-below : (l : List ℕ) (n i : ℕ) → ((j : ℕ) → j < length l → getD l j 0 < n) → i < length (l ++ n ∷ []) → getD (l ++ n ∷ []) i 0 < suc n
-last-below [] n zero h k = omega arith
-last-below [] n (suc i) h k = absurd (omega arith)
-last-below (x ∷ l) n zero h k = omega (arith, h 0 (omega arith))
-last-below (x ∷ l) n (suc i) h k = last-below l n i (λ j g. h (suc j) (omega arith)) (omega arith)
 
 module _ (p : ℕ → Bool) where
   pub picked-start : picked p 0 ≡ []
@@ -42,21 +34,6 @@ module _ (p : ℕ → Bool) where
   pub picked-miss : (n : ℕ) → p n ≡ false → picked p (n + 1) ≡ picked p n
   unfolding picked each
   picked-miss n t = rw (add-one n, each, t) (append-nil (each (λ e. cond (p e) (e ∷ []) []) n))
-
-  pub picked-few : (n : ℕ) → length (picked p n) ≤ n
-  picked-few zero = rw picked-start zero-le
-  picked-few (suc n) =
-      let ih = picked-few n in
-      cases (p n)
-      (λ t. rw (← add-one n, picked-hit n t) (omega (arith, length-append (picked p n) (n ∷ []))))
-      (λ t. rw (← add-one n, picked-miss n t) (omega arith))
-
-  pub picked-below : (n i : ℕ) → i < length (picked p n) → getD (picked p n) i 0 < n
-  picked-below zero i h = absurd (not-suc-le-zero (rw picked-start at h))
-  picked-below (suc n) i h =
-      cases (p n)
-      (λ t. let q = ap (picked p) (sym (add-one n)) ∙ picked-hit n t in rw q (last-below (picked p n) n i (picked-below n) (rw q at h)))
-      (λ t. let q = ap (picked p) (sym (add-one n)) ∙ picked-miss n t in rw q (omega (arith, picked-below n i (rw q at h))))
 
 -- a number that passes is stored behind those picked before
 pub pick-one : (l out : List ℕ) (c a : ℕ) → c ≡ length l → c < length out → (set (l ++ drop c out) c a ≡ (l ++ a ∷ []) ++ drop (c + 1) out)

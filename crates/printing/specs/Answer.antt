@@ -10,10 +10,11 @@ use Rattle.model.specs.declared.Analysis.{Analysis}
 use Rattle.model.specs.Numbers.{each}
 use Rattle.model.specs.Report.{resultLine, refusalLine}
 use Rattle.printing.specs.Entries.{nthLine}
+use Rattle.model.specs.Reading.{mostEvents}
 
 -- N × N + 1, where N is in its range
 unfoldable pub budgetIn : List ℕ → ℕ
-budgetIn s = cond (leb (length s / 4) 1024) (length s / 4 * (length s / 4) + 1) 0
+budgetIn s = cond (leb (length s / 4) mostEvents) (length s / 4 * (length s / 4) + 1) 0
 
 -- the tasks of a file that reading accepts
 abbrev pub tasksIn : Reading → ℕ

@@ -7,6 +7,7 @@ use crate::entries::put_entries;
 use crate::lines::put_refusal;
 use crate::lines::put_result;
 use model::Analysis;
+use model::MOST_EVENTS;
 use model::Reading;
 
 // N × N + 1: enough for the passes to settle.
@@ -14,7 +15,7 @@ pub fn budget_of(records: &[u8]) -> u32
     ensures { λ r. ⌜ r ≡ budgetIn (now (records .entry)) ⌝ }
 {
     let n = records.len() / 4;
-    if n <= 1024 {
+    if n <= MOST_EVENTS {
         let m = n as u32;
         return m * m + 1;
     }

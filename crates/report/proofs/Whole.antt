@@ -10,17 +10,17 @@ use Rattle.model.specs.declared.Refusal.{Refusal}
 use Rattle.model.specs.declared.Analysis.{Analysis}
 use Rattle.model.specs.Recording.{size, tasks}
 use Rattle.model.specs.File.{trailerOf, recordBytes, recordingOf}
-use Rattle.model.specs.Reading.{fileCheck, readingOf, recordsOf}
+use Rattle.model.specs.Reading.{fileCheck, readingOf, recordsOf, mostEvents}
 use Rattle.model.specs.Passes.{run}
 use Rattle.model.specs.Pairs.{Entry, listed, entryNumbers}
 use Rattle.model.specs.Analysing.{workCheck, analysisCheck, analysisOf, workAfterAnalysing, listAfterAnalysing}
-use Rattle.model.proofs.Tests.{leb-true, le-leb, lt-ltb, le-ltb}
-use Rattle.model.proofs.Checks.{unless-passed, then-passed}
+use Rattle.model.proofs.Tests.{le-leb, lt-ltb, le-ltb}
+use Rattle.model.proofs.Uncut.{analysis-passed}
 use Rattle.model.proofs.Files.{sound, events-length, size-records}
 use Rattle.model.specs.Text.{bytes}
 use Rattle.model.specs.Report.{laid, filling}
 use Rattle.printing.specs.Output.{Put}
-use Rattle.model.specs.Report.{resultLine, resultText, budgetOf, reportBy, isLong, reportOf, workAfterReporting, listAfterReporting}
+use Rattle.model.specs.Report.{resultLine, resultText, budgetOf, reportBy, mostBytes, isLong, reportOf, workAfterReporting, listAfterReporting}
 use Rattle.printing.specs.Answer.{budgetIn, tasksIn, Holds, answerText}
 use Rattle.printing.proofs.Putting.{put-laid}
 use Rattle.printing.proofs.Listing.{each-entry}
@@ -49,8 +49,8 @@ module _ (f : List ℕ) where
   unfolding budgetIn
   the-budget q =
       let s = sound f q in
-      let few : size (recordingOf f) ≤ 1024 = omega (arith, size-records f s, s .range .few-records) in
-      rw (the-events q, le-leb (size (recordingOf f)) 1024 few)
+      let few : size (recordingOf f) ≤ mostEvents = omega (arith, size-records f s, s .range .few-records) in
+      rw (the-events q, le-leb (size (recordingOf f)) mostEvents few)
 
   -- ---- the budget of a refused file does not matter
 
@@ -74,14 +74,6 @@ module _ (f : List ℕ) where
   -- ---- the answer
 
   module _ (b : ℕ) (work list : List ℕ) where
-    passed : analysisCheck f b work list ≡ Check.Passed → (fileCheck f ≡ Check.Passed) × (3 * length (listed (recordingOf f) b) ≤ length list)
-    unfolding analysisCheck workCheck
-    passed q =
-        let (w, l) = then-passed _ _ q in
-        let (p, x) = then-passed _ _ w in
-        let (fits, y) = unless-passed _ _ _ l in
-        (p, leb-true _ _ fits)
-
     pub held : (c : Check) → analysisCheck f b work list ≡ c → Holds (analysisOf f b work list) (listAfterAnalysing f b work list)
     unfolding analysisOf listAfterAnalysing
     held Check.Passed q =
@@ -93,7 +85,7 @@ module _ (f : List ℕ) where
         → answerText (recordsOf f) (tasksIn (readingOf f)) (analysisOf f b work list) (listAfterAnalysing f b work list) ≡ reportBy (recordingOf f) b c
     unfolding answerText analysisOf listAfterAnalysing resultText recordingOf
     the-answer Check.Passed q =
-        let p = passed q .0 in
+        let p = analysis-passed f b work list q .0 in
         let E = recordingOf f in
         let l = listed E b in
         rw (q, the-events p, the-tasks p, the-records p)
@@ -107,10 +99,10 @@ abbrev pub Printed : (f work list out work′ list′ out′ : List ℕ) (r : �
 Printed f work list out work′ list′ out′ r =
     (r ≡ filling (reportOf f work list) out) × ((out′ ≡ laid (reportOf f work list) out) × ((work′ ≡ workAfterReporting f work) × (list′ ≡ listAfterReporting f work list)))
 
-pub long-printed : (f work list out out′ : List ℕ) (r : ℕ) → 16384 < length f → Put out out′ 0 (bytes "too long\n") r → Printed f work list out work list out′ r
+pub long-printed : (f work list out out′ : List ℕ) (r : ℕ) → mostBytes < length f → Put out out′ 0 (bytes "too long\n") r → Printed f work list out work list out′ r
 unfolding isLong reportOf workAfterReporting listAfterReporting
 long-printed f work list out out′ r h p =
-    let (o, n) = put-laid out out′ (bytes "too long\n") r p in rw (lt-ltb 16384 (length f) h) (n, (o, (refl, refl)))
+    let (o, n) = put-laid out out′ (bytes "too long\n") r p in rw (lt-ltb mostBytes (length f) h) (n, (o, (refl, refl)))
 
 -- a file that is not too long: what the calls gave
 pub record Called (f work list s : List ℕ) (b t : ℕ) (a : Analysis) (work′ list′ : List ℕ) : Type 0 where
@@ -133,9 +125,9 @@ module _ (f work list s : List ℕ) (b t : ℕ) (a : Analysis) (work′ list′ 
       rw (c .records, c .tasks, c .answer, c .list-left, the-call, same-answer f work list, same-list f work list)
       (the-answer f (budgetOf (recordingOf f)) work list (analysisCheck f (budgetOf (recordingOf f)) work list) refl)
 
-  pub short-printed : (out out′ : List ℕ) (r : ℕ) → length f ≤ 16384 → Put out out′ 0 (answerText s t a list′) r → Printed f work list out work′ list′ out′ r
+  pub short-printed : (out out′ : List ℕ) (r : ℕ) → length f ≤ mostBytes → Put out out′ 0 (answerText s t a list′) r → Printed f work list out work′ list′ out′ r
   unfolding isLong reportOf workAfterReporting listAfterReporting
   short-printed out out′ r h p =
       let (o, n) = put-laid out out′ (answerText s t a list′) r p in
-      rw (le-ltb 16384 (length f) h, sym the-text)
+      rw (le-ltb mostBytes (length f) h, sym the-text)
       (n, (o, (c .work-left ∙ rw the-call (same-work f work), c .list-left ∙ rw the-call (same-list f work list))))

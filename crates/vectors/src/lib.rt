@@ -6,7 +6,9 @@ ghost use lib.ListN.{length, getD, set, drop};
 ghost use lib.Seq.{sets};
 ghost use lib.Dec.{leb};
 ghost use Rattle.model.specs.Numbers.{count, kthLeast};
+ghost use Rattle.model.specs.Reading.{mostEvents};
 ghost use Rattle.vectors.specs.Rows.{raisedAt, column, ownRow, Rose};
+use model::MOST_EVENTS;
 
 // Raises the number at `at` to y. Answers whether it rose.
 fn raise_number(v: &mut [u16], at: usize, y: u16) -> bool
@@ -42,7 +44,7 @@ pub fn raise_row(v: &mut [u16], to: usize, from: usize, tasks: usize) -> bool
 
 // How many of the numbers are at most x.
 fn at_most(s: &[u16], x: u16) -> u16
-    requires { ⌜ length (now s) ≤ 1024 ⌝ }
+    requires { ⌜ length (now s) ≤ mostEvents ⌝ }
     ensures { λ r. ⌜ r ≡ count (λ y. leb y x) (now (s .entry)) ⌝ }
 {
     let mut n: u16 = 0;
@@ -58,7 +60,7 @@ fn at_most(s: &[u16], x: u16) -> u16
 
 // The k-th least, from 1, by halving a range that holds it.
 fn narrow(s: &[u16], k: u16, from: u16, to: u16) -> u16
-    requires { ⌜ (length (now s) ≤ 1024) × (k ≤ length (now s)) ⌝ }
+    requires { ⌜ (length (now s) ≤ mostEvents) × (k ≤ length (now s)) ⌝ }
     requires { ⌜ (from ≤ kthLeast k (now s)) × (kthLeast k (now s) ≤ to) ⌝ }
     ensures { λ r. ⌜ r ≡ kthLeast k (now (s .entry)) ⌝ }
 {
@@ -76,17 +78,18 @@ fn narrow(s: &[u16], k: u16, from: u16, to: u16) -> u16
     lo
 }
 
-// The larger of `own` and the k-th least. Where own is the larger, one look at the numbers is enough.
-// Numbers are seldom above 1024, and a smaller range is narrowed sooner.
+// The larger of `own` and the k-th least. Where own is the larger, one look at the numbers is enough. In an accepted
+// recording no number is above 1,024, and that range is narrowed sooner; nothing here asks for it.
 fn or_kth(s: &[u16], k: u16, own: u16) -> u16
-    requires { ⌜ (length (now s) ≤ 1024) × (k ≤ length (now s)) ⌝ }
+    requires { ⌜ (length (now s) ≤ mostEvents) × (k ≤ length (now s)) ⌝ }
     ensures { λ r. ⌜ r ≡ max own (kthLeast k (now (s .entry))) ⌝ }
 {
     if k <= at_most(s, own) {
         return own;
     }
-    if k <= at_most(s, 1024) {
-        return narrow(s, k, own, 1024);
+    let most = MOST_EVENTS as u16;
+    if k <= at_most(s, most) {
+        return narrow(s, k, own, most);
     }
     narrow(s, k, own, 65535)
 }
@@ -115,11 +118,11 @@ fn gather(v: &[u16], tasks: usize, t: usize, events: &[u16], out: &mut [u16])
 
 // The larger of `own` and the k-th least of the listed events' numbers for task t.
 fn or_kth_of(v: &[u16], tasks: usize, t: usize, events: &[u16], k: u16, own: u16) -> u16
-    requires { ⌜ (k ≤ length (now events)) × (length (now events) ≤ 1024) ⌝ }
+    requires { ⌜ (k ≤ length (now events)) × (length (now events) ≤ mostEvents) ⌝ }
     requires { ⌜ ((i : ℕ) → i < length (now events) → getD (now events) i 0 * tasks + t < length (now v)) ⌝ }
     ensures { λ r. ⌜ r ≡ max own (kthLeast k (column tasks (now (v .entry)) t (now (events .entry)))) ⌝ }
 {
-    let mut numbers = [0u16; 1024];
+    let mut numbers = [0u16; MOST_EVENTS];
     gather(v, tasks, t, events, &mut numbers);
     let c = events.len();
     or_kth(&numbers[..c], k, own)
@@ -127,7 +130,7 @@ fn or_kth_of(v: &[u16], tasks: usize, t: usize, events: &[u16], k: u16, own: u16
 
 // Raises vector e, task by task, to the k-th least number of the listed events, of which there are k.
 fn raise_each(v: &mut [u16], e: usize, tasks: usize, events: &[u16], k: u16) -> bool
-    requires { ⌜ (e * tasks + tasks ≤ length (now v)) × (k ≤ length (now events)) × (length (now events) ≤ 1024) ⌝ }
+    requires { ⌜ (e * tasks + tasks ≤ length (now v)) × (k ≤ length (now events)) × (length (now events) ≤ mostEvents) ⌝ }
     requires { ⌜ ((i : ℕ) → i < length (now events) → getD (now events) i 0 * tasks + tasks ≤ length (now v)) ⌝ }
     ensures { λ _. ⌜ now (v .exit) ≡ raisedAt (now (v .entry)) (e * tasks) (λ t. kthLeast k (column tasks (now (v .entry)) t (now (events .entry)))) tasks ⌝ }
     ensures { λ r. ⌜ Rose (now (v .entry)) (now (v .exit)) r ⌝ }
@@ -148,7 +151,7 @@ fn raise_each(v: &mut [u16], e: usize, tasks: usize, events: &[u16], k: u16) -> 
 // Raises vector e, task by task, to the k-th least number of the listed events; fewer than k raise nothing.
 // Answers whether any number rose.
 pub fn raise_to_kth(v: &mut [u16], e: usize, tasks: usize, events: &[u16], k: u16) -> bool
-    requires { ⌜ (e * tasks + tasks ≤ length (now v)) × (length (now events) ≤ 1024) ⌝ }
+    requires { ⌜ (e * tasks + tasks ≤ length (now v)) × (length (now events) ≤ mostEvents) ⌝ }
     requires { ⌜ ((i : ℕ) → i < length (now events) → getD (now events) i 0 * tasks + tasks ≤ length (now v)) ⌝ }
     ensures { λ _. ⌜ now (v .exit) ≡ raisedAt (now (v .entry)) (e * tasks) (λ t. kthLeast k (column tasks (now (v .entry)) t (now (events .entry)))) tasks ⌝ }
     ensures { λ r. ⌜ Rose (now (v .entry)) (now (v .exit)) r ⌝ }

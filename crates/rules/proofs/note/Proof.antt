@@ -8,13 +8,13 @@ use Rattle.rules.proofs.note.Statement.{statement}
 use Rattle.rules.proofs.note.Tie as tie
 
 element-copy-out-on : tie.Need-element-copy-out-on
-element-copy-out-on c = let s = c .before .before .before .before .before .before in let k = c .before .before .if1 .taken in omega (arith, s .pre .0 .object k)
+element-copy-out-on c = let s = c .before .before .before .before .before .before in omega (arith, s .pre .0 .object (omega arith))
 
 add-on : tie.Need-add-on
-add-on c = let s = c .before .before .before .before .before .before .before in let k = c .before .before .before .if1 .taken in omega (arith, s .pre .1 .kind k)
+add-on c = let s = c .before .before .before .before .before .before .before in omega (arith, s .pre .1 .kind (omega arith))
 
 element-write-on : tie.Need-element-write-on
-element-write-on c = let s = c .before .before .before .before .before .before .before in let k = c .before .before .before .if1 .taken in omega (arith, s .pre .0 .object k)
+element-write-on c = let s = c .before .before .before .before .before .before .before in omega (arith, s .pre .0 .object (omega arith))
 
 returns : tie.Need-returns
 unfolding notedOn notedOwn

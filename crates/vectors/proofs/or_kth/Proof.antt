@@ -8,6 +8,7 @@ use Rattle.model.proofs.Least.{kth-le, kth-gt}
 use Rattle.vectors.proofs.Stores.{count-all}
 use Rattle.vectors.proofs.or_kth.Statement.{statement}
 use Rattle.vectors.proofs.or_kth.Tie as tie
+use Rattle.model.specs.Reading.{mostEvents}
 
 returns : tie.Need-returns
 returns c =
@@ -18,7 +19,7 @@ narrow-requires : tie.Need-narrow-requires
 narrow-requires c κs =
     let a = c .before .before .before .before .before .args in
     let lo = kth-gt (a .k) (a .s .now) (a .own) (omega arith) (omega arith) in
-    let hi = kth-le (a .k) (a .s .now) 1024 (omega arith) in
+    let hi = kth-le (a .k) (a .s .now) mostEvents (omega arith) in
     omega arith
 
 returns-2 : tie.Need-returns-2
@@ -45,6 +46,7 @@ or-kth-spec =
     (tie.spec
     (λ c κs. omega arith)
     returns
+    (λ c. omega arith)
     (λ c κs. omega arith)
     narrow-requires
     returns-2
