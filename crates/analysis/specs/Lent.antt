@@ -13,12 +13,13 @@ use Rattle.model.specs.Vectors.{Vectors}
 use Rattle.model.specs.Analysing.{analysisOf, workAfterAnalysing, listAfterAnalysing}
 use Rattle.model.specs.Question.{answerOf, workAfterAsking}
 use Rattle.passes.specs.Lent.{vectorsIn, Records}
+use Rattle.model.specs.Reading.{mostTasks, mostCells}
 
--- the records of an accepted file
+-- what analysing needs of the records and counts of a file, as acceptance gives it
 pub record Ready (s : List ℕ) (c : Counts) : Type 0 where
   pub records : Records s c
-  pub tasks : c .tasks ≤ 16
-  pub cells : c .cells ≤ 1024
+  pub tasks : c .tasks ≤ mostTasks
+  pub cells : c .cells ≤ mostCells
 
 -- N × T, how many numbers the vectors of these records have
 abbrev pub numbers : List ℕ → Counts → ℕ

@@ -19,6 +19,10 @@ use Rattle.model.specs.Reading.{mostCells}
 abbrev pub over : {A : Type 0} → (Recording → Vectors → Vectors → A) → List ℕ → Counts → List ℕ → List ℕ → A
 over f s c x r = f (recordingBy s c) (vectorsIn s c x) (vectorsIn s c r)
 
+-- n is how many entries f has by the safe vectors x, whatever recorded vectors give the marks
+abbrev pub HowMany : (Recording → Vectors → Vectors → List Entry) → List ℕ → Counts → List ℕ → ℕ → Type 0
+HowMany f s c x n = (R : Vectors) → n ≡ length (f (recordingBy s c) (vectorsIn s c x) R)
+
 -- records of few cells, the positions of their events, and the safe and the recorded vectors x and r
 pub record Lent (s : List ℕ) (c : Counts) (positions x r : List ℕ) : Type 0 where
   pub placed : Placed s c positions

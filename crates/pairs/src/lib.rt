@@ -5,13 +5,13 @@ ghost use Prim.Native.Nat.{_+_, _*_, _≤_, _<_};
 ghost use lib.ListN.{length};
 ghost use lib.Seq.{sets};
 ghost use Rattle.model.specs.File.{recordingBy, eventsOf};
-ghost use Rattle.model.specs.Vectors.{Vectors, unordered};
+ghost use Rattle.model.specs.Vectors.{unordered};
 ghost use Rattle.model.specs.Pairs.{isAccess, isWrite, conflict, racePair, mark, pairAt, entriesOf, cellEntries, entries};
 ghost use Rattle.model.specs.Question.{relationBy};
 ghost use Rattle.model.specs.Reading.{mostCells};
 ghost use Rattle.passes.specs.Lent.{vectorsIn, Fitting, Numbered, Placed};
 ghost use Rattle.pairs.specs.Chains.{Chained, InChain};
-ghost use Rattle.pairs.specs.Lent.{over, Lent, Stored, WrittenList};
+ghost use Rattle.pairs.specs.Lent.{over, HowMany, Lent, Stored, WrittenList};
 use events::CHAINS;
 use model::Counts;
 use model::Event;
@@ -114,7 +114,7 @@ fn count_pair(
 ) -> usize
     requires { ⌜ Placed (now records) counts (now positions) × Fitting (now records) counts (now safe) ⌝ }
     requires { ⌜ (a < b) × Numbered (now records) b ⌝ }
-    ensures { λ r. ⌜ ((R : Vectors) → r ≡ length (pairAt (recordingBy (now (records .entry)) counts) (vectorsIn (now (records .entry)) counts (now (safe .entry))) R a b)) ⌝ }
+    ensures { λ r. ⌜ HowMany (λ E X R. pairAt E X R a b) (now (records .entry)) counts (now (safe .entry)) r ⌝ }
 {
     if race_pair(records, counts, positions, safe, a, b) {
         1
@@ -134,7 +134,7 @@ fn count_row(
 ) -> usize
     requires { ⌜ Placed (now records) counts (now positions) × Fitting (now records) counts (now safe) ⌝ }
     requires { ⌜ Chained (now records) (counts .cells) (now chain) × InChain (now records) (counts .cells) a ⌝ }
-    ensures { λ r. ⌜ ((R : Vectors) → r ≡ length (entriesOf (recordingBy (now (records .entry)) counts) (vectorsIn (now (records .entry)) counts (now (safe .entry))) R a)) ⌝ }
+    ensures { λ r. ⌜ HowMany (λ E X R. entriesOf E X R a) (now (records .entry)) counts (now (safe .entry)) r ⌝ }
 {
     let n = records.len() / 4;
     let mut pairs: usize = 0;
@@ -157,7 +157,7 @@ fn count_cell(
 ) -> usize
     requires { ⌜ Placed (now records) counts (now positions) × Fitting (now records) counts (now safe) ⌝ }
     requires { ⌜ Chained (now records) (counts .cells) (now chain) × (cell < counts .cells) × (counts .cells ≤ mostCells) ⌝ }
-    ensures { λ r. ⌜ ((R : Vectors) → r ≡ length (cellEntries (recordingBy (now (records .entry)) counts) (vectorsIn (now (records .entry)) counts (now (safe .entry))) R cell)) ⌝ }
+    ensures { λ r. ⌜ HowMany (λ E X R. cellEntries E X R cell) (now (records .entry)) counts (now (safe .entry)) r ⌝ }
 {
     let n = records.len() / 4;
     let mut pairs: usize = 0;
@@ -179,7 +179,7 @@ fn count(
 ) -> usize
     requires { ⌜ Placed (now records) counts (now positions) × Fitting (now records) counts (now safe) ⌝ }
     requires { ⌜ Chained (now records) (counts .cells) (now chain) × (counts .cells ≤ mostCells) ⌝ }
-    ensures { λ r. ⌜ ((R : Vectors) → r ≡ length (entries (recordingBy (now (records .entry)) counts) (vectorsIn (now (records .entry)) counts (now (safe .entry))) R)) ⌝ }
+    ensures { λ r. ⌜ HowMany entries (now (records .entry)) counts (now (safe .entry)) r ⌝ }
 {
     let cells = counts.cells;
     let mut pairs: usize = 0;

@@ -6,15 +6,20 @@ use mathlib.Core.List.{List}
 use lib.ListN.{length, getD}
 use Rattle.model.specs.declared.Counts.{Counts}
 use Rattle.model.specs.declared.Found.{Found}
-use Rattle.model.specs.Recording.{size, taskOf, kindOf, objectOf}
+use Rattle.model.specs.Recording.{Recording, size, taskOf, kindOf, objectOf, wait}
 use Rattle.model.specs.File.{eventsOf, recordingBy}
 use Rattle.model.specs.Vectors.{Vectors}
 use Rattle.vectors.specs.Rows.{chunks, raisedAt}
 use Rattle.events.specs.Kept.{Positions}
+use Rattle.model.specs.Reading.{mostSemaphores, mostEvents}
 
 -- lent numbers as one vector for each event
 abbrev pub vectorsIn : List ℕ → Counts → List ℕ → Vectors
 vectorsIn s c v = chunks (size (recordingBy s c)) (c .tasks) v
+
+-- the lent numbers v have become v′: f has been applied to their vectors
+abbrev pub Becomes : (Recording → Vectors → Vectors) → List ℕ → Counts → List ℕ → List ℕ → Type 0
+Becomes f s c v v′ = vectorsIn s c v′ ≡ f (recordingBy s c) (vectorsIn s c v)
 
 -- they are as many as the vectors have
 abbrev pub Fitting : List ℕ → Counts → List ℕ → Type 0
@@ -28,9 +33,9 @@ Numbered s a = a < length (eventsOf s)
 -- semaphore below 64
 pub record Records (s : List ℕ) (c : Counts) : Type 0 where
   pub whole : length s ≡ 4 * size (recordingBy s c)
-  pub few : size (recordingBy s c) ≤ 1024
+  pub few : size (recordingBy s c) ≤ mostEvents
   pub named : (e : ℕ) → e < size (recordingBy s c) → taskOf (recordingBy s c) e < c .tasks
-  pub waits : (e : ℕ) → e < size (recordingBy s c) → kindOf (recordingBy s c) e ≡ 2 → objectOf (recordingBy s c) e < 64
+  pub waits : (e : ℕ) → e < size (recordingBy s c) → kindOf (recordingBy s c) e ≡ wait → objectOf (recordingBy s c) e < mostSemaphores
 
 -- and the positions of their events
 pub record Placed (s : List ℕ) (c : Counts) (positions : List ℕ) : Type 0 where

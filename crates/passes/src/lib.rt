@@ -6,13 +6,13 @@ ghost use lib.Dec.{eqb};
 ghost use lib.ListN.{length, drop};
 ghost use lib.Seq.{sets};
 ghost use Rattle.model.specs.declared.Counts.{Counts};
-ghost use Rattle.model.specs.Recording.{size, kindOf, isOn, eventIn};
+ghost use Rattle.model.specs.Recording.{size, kindOf, isOn, eventIn, join};
 ghost use Rattle.model.specs.File.{eventsOf, recordingBy};
 ghost use Rattle.model.specs.Vectors.{flat, start, ordered};
 ghost use Rattle.model.specs.Passes.{joinSources, stepOne, kOf, pass, run};
 ghost use Rattle.model.specs.Recorded.{matched, recorded};
 ghost use Rattle.vectors.specs.Rows.{Rose};
-ghost use Rattle.passes.specs.Lent.{vectorsIn, Fitting, Numbered, Records, Placed, Inside, raisedFound};
+ghost use Rattle.passes.specs.Lent.{vectorsIn, Becomes, Fitting, Numbered, Records, Placed, Inside, raisedFound};
 ghost use Rattle.events.specs.Kept.{Below, Before};
 ghost use Rattle.passes.specs.Matching.{Matching};
 ghost use Rattle.passes.specs.Steps.{firstRow, taken, waitBefore, candidate, candidatesOn, waited, stepTwo, raisedEvent, recordedEvent};
@@ -78,8 +78,7 @@ fn raise_found(v: &mut [u16], e: usize, tasks: usize, from: Found) -> bool
 // For a join of t, raises vector e to those of the fork of t and of t's last event. Answers whether any number rose.
 fn raise_by_join(records: &[u8], counts: Counts, e: usize, v: &mut [u16]) -> bool
     requires { ⌜ Records (now records) counts × Fitting (now records) counts (now v) × Numbered (now records) e ⌝ }
-    ensures { λ _. ⌜ vectorsIn (now (records .entry)) counts (now (v .exit)) ≡ taken counts (vectorsIn (now (records .entry)) counts (now (v .entry)))
-        (joinSources (eventsOf (now (records .entry))) e (eqb (kindOf (recordingBy (now (records .entry)) counts) e) 4)) e ⌝ }
+    ensures { λ _. ⌜ Becomes (λ E X. taken counts X (joinSources (E .events) e (eqb (kindOf E e) join)) e) (now (records .entry)) counts (now (v .entry)) (now (v .exit)) ⌝ }
     ensures { λ r. ⌜ Rose (now (v .entry)) (now (v .exit)) r ⌝ }
 {
     let j = events::event_at(records, e);
@@ -104,8 +103,7 @@ fn step_one(
     v: &mut [u16],
 ) -> bool
     requires { ⌜ Records (now records) counts × Fitting (now records) counts (now v) × Numbered (now records) e × Before (eventsOf (now records)) (now before) ⌝ }
-    ensures { λ _. ⌜ vectorsIn (now (records .entry)) counts (now (v .exit))
-        ≡ stepOne (recordingBy (now (records .entry)) counts) (vectorsIn (now (records .entry)) counts (now (v .entry))) e ⌝ }
+    ensures { λ _. ⌜ Becomes (λ E X. stepOne E X e) (now (records .entry)) counts (now (v .entry)) (now (v .exit)) ⌝ }
     ensures { λ r. ⌜ Rose (now (v .entry)) (now (v .exit)) r ⌝ }
 {
     let from = events::found_below(records.len() / 4, before[e]);
@@ -211,8 +209,7 @@ fn raise_wait(
     v: &mut [u16],
 ) -> bool
     requires { ⌜ Placed (now records) counts (now positions) × Fitting (now records) counts (now v) × Numbered (now records) e ⌝ }
-    ensures { λ _. ⌜ vectorsIn (now (records .entry)) counts (now (v .exit))
-        ≡ waited (recordingBy (now (records .entry)) counts) (vectorsIn (now (records .entry)) counts (now (v .entry))) e s ⌝ }
+    ensures { λ _. ⌜ Becomes (λ E X. waited E X e s) (now (records .entry)) counts (now (v .entry)) (now (v .exit)) ⌝ }
     ensures { λ r. ⌜ Rose (now (v .entry)) (now (v .exit)) r ⌝ }
 {
     let mut found = [0u16; MOST_EVENTS];
@@ -225,8 +222,7 @@ fn raise_wait(
 // Step 2 for event e. Answers whether any number rose.
 fn step_two(records: &[u8], counts: Counts, positions: &[u16], e: usize, v: &mut [u16]) -> bool
     requires { ⌜ Placed (now records) counts (now positions) × Fitting (now records) counts (now v) × Numbered (now records) e ⌝ }
-    ensures { λ _. ⌜ vectorsIn (now (records .entry)) counts (now (v .exit))
-        ≡ stepTwo (recordingBy (now (records .entry)) counts) (vectorsIn (now (records .entry)) counts (now (v .entry))) e ⌝ }
+    ensures { λ _. ⌜ Becomes (λ E X. stepTwo E X e) (now (records .entry)) counts (now (v .entry)) (now (v .exit)) ⌝ }
     ensures { λ r. ⌜ Rose (now (v .entry)) (now (v .exit)) r ⌝ }
 {
     let w = events::event_at(records, e);
@@ -246,8 +242,7 @@ fn raise_event(
     v: &mut [u16],
 ) -> bool
     requires { ⌜ Placed (now records) counts (now positions) × Fitting (now records) counts (now v) × Numbered (now records) e × Before (eventsOf (now records)) (now before) ⌝ }
-    ensures { λ _. ⌜ vectorsIn (now (records .entry)) counts (now (v .exit))
-        ≡ raisedEvent (recordingBy (now (records .entry)) counts) (vectorsIn (now (records .entry)) counts (now (v .entry))) e ⌝ }
+    ensures { λ _. ⌜ Becomes (λ E X. raisedEvent E X e) (now (records .entry)) counts (now (v .entry)) (now (v .exit)) ⌝ }
     ensures { λ r. ⌜ Rose (now (v .entry)) (now (v .exit)) r ⌝ }
 {
     let x = step_one(records, counts, before, e, v);
@@ -264,8 +259,7 @@ fn pass(
     v: &mut [u16],
 ) -> bool
     requires { ⌜ Placed (now records) counts (now positions) × Fitting (now records) counts (now v) × Before (eventsOf (now records)) (now before) ⌝ }
-    ensures { λ _. ⌜ vectorsIn (now (records .entry)) counts (now (v .exit))
-        ≡ pass (recordingBy (now (records .entry)) counts) (vectorsIn (now (records .entry)) counts (now (v .entry))) ⌝ }
+    ensures { λ _. ⌜ Becomes pass (now (records .entry)) counts (now (v .entry)) (now (v .exit)) ⌝ }
     ensures { λ r. ⌜ Rose (now (v .entry)) (now (v .exit)) r ⌝ }
 {
     let n = records.len() / 4;
@@ -392,8 +386,7 @@ fn record_event(
 )
     requires { ⌜ Records (now records) counts × Fitting (now records) counts (now v) × Numbered (now records) e × Before (eventsOf (now records)) (now before) ⌝ }
     requires { ⌜ Matching (now records) e (now chain) ⌝ }
-    ensures { λ _. ⌜ vectorsIn (now (records .entry)) counts (now (v .exit))
-        ≡ recordedEvent (recordingBy (now (records .entry)) counts) (vectorsIn (now (records .entry)) counts (now (v .entry))) e ⌝ }
+    ensures { λ _. ⌜ Becomes (λ E X. recordedEvent E X e) (now (records .entry)) counts (now (v .entry)) (now (v .exit)) ⌝ }
     ensures { λ _. ⌜ Matching (now (records .entry)) (e + 1) (now (chain .exit)) ⌝ }
 {
     step_one(records, counts, before, e, v);
