@@ -2,72 +2,72 @@
 // index needs a proof.
 
 // A record's fields in the events, four numbers each; the last is its place in its task, from 1.
-pub const TASK: u16 = 0;
+pub(crate) const TASK: u16 = 0;
 
-pub const KIND: u16 = 1;
+pub(crate) const KIND: u16 = 1;
 
-pub const OBJECT: u16 = 2;
+pub(crate) const OBJECT: u16 = 2;
 
-pub const POSITION: u16 = 3;
+pub(crate) const POSITION: u16 = 3;
 
-pub fn at(s: &[u16], i: usize) -> u16 {
+pub(crate) fn at(s: &[u16], i: usize) -> u16 {
     if i < s.len() { s[i] } else { 0 }
 }
 
-pub fn put(s: &mut [u16], i: usize, v: u16) {
+pub(crate) fn put(s: &mut [u16], i: usize, v: u16) {
     if i < s.len() {
         s[i] = v;
     }
 }
 
-pub fn total_at(s: &[u32], i: usize) -> u32 {
+pub(crate) fn total_at(s: &[u32], i: usize) -> u32 {
     if i < s.len() { s[i] } else { 0 }
 }
 
-pub fn put_total(s: &mut [u32], i: usize, v: u32) {
+pub(crate) fn put_total(s: &mut [u32], i: usize, v: u32) {
     if i < s.len() {
         s[i] = v;
     }
 }
 
-pub fn put_byte(s: &mut [u8], i: usize, v: u8) {
+pub(crate) fn put_byte(s: &mut [u8], i: usize, v: u8) {
     if i < s.len() {
         s[i] = v;
     }
 }
 
-pub fn byte(s: &[u8], i: usize) -> u16 {
+pub(crate) fn byte(s: &[u8], i: usize) -> u16 {
     if i < s.len() { s[i] as u16 } else { 0 }
 }
 
 // Two bytes, little-endian.
-pub fn word(s: &[u8], i: u16) -> u16 {
+pub(crate) fn word(s: &[u8], i: u16) -> u16 {
     let k = i as usize;
     byte(s, k) % 256 + byte(s, k + 1) % 256 * 256
 }
 
 // Four bytes, little-endian.
-pub fn double(s: &[u8], i: u16) -> u32 {
+pub(crate) fn double(s: &[u8], i: u16) -> u32 {
     let low = word(s, i) as u32;
     let high = word(s, up_by_two(i)) as u32;
     low + high * 65536
 }
 
 // One more, but never past the type's end.
-pub fn up(x: u16) -> u16 {
+pub(crate) fn up(x: u16) -> u16 {
     if x < 65535 { x + 1 } else { x }
 }
 
-pub fn up_by_two(x: u16) -> u16 {
+fn up_by_two(x: u16) -> u16 {
     up(up(x))
 }
 
-pub fn up_total(x: u32) -> u32 {
+pub(crate) fn up_total(x: u32) -> u32 {
     if x < 4294967295 { x + 1 } else { x }
 }
 
 // The sum, or the type's end where that is less.
-pub fn sum(x: u32, y: u32) -> u32 {
+pub(crate) fn sum(x: u32, y: u32) -> u32 {
     if y <= 4294967295 - x {
         x + y
     } else {
@@ -76,15 +76,15 @@ pub fn sum(x: u32, y: u32) -> u32 {
 }
 
 // Where a field of a record lies, in slices of four numbers an event.
-pub fn field(e: u16, f: u16) -> usize {
+pub(crate) fn field(e: u16, f: u16) -> usize {
     e as usize * 4 + f as usize
 }
 
 // Where a number of a vector lies, in slices of sixteen numbers an event.
-pub fn place(e: u16, t: u16) -> usize {
+pub(crate) fn place(e: u16, t: u16) -> usize {
     e as usize * 16 + t as usize
 }
 
-pub fn get(s: &[u16], e: u16, f: u16) -> u16 {
+pub(crate) fn get(s: &[u16], e: u16, f: u16) -> u16 {
     at(s, field(e, f))
 }

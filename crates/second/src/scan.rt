@@ -31,28 +31,28 @@ const BEHIND: u16 = 1536;
 
 // By event, what it follows: the event before it in its task or the fork of its task; at a join the
 // fork and the last event of the joined task; at a wait the signal that it takes.
-pub const BEFORE: u16 = 0;
+pub(crate) const BEFORE: u16 = 0;
 
-pub const FORKED: u16 = 1;
+pub(crate) const FORKED: u16 = 1;
 
-pub const ENDED: u16 = 2;
+pub(crate) const ENDED: u16 = 2;
 
-pub const TAKEN: u16 = 3;
+pub(crate) const TAKEN: u16 = 3;
 
 // A trailer; refusal is 0 where 1 to 4 do not apply.
-pub struct Header {
-    pub refusal: u16,
-    pub start: usize,
-    pub events: u16,
-    pub tasks: u16,
-    pub semaphores: u16,
-    pub cells: u16,
+pub(crate) struct Header {
+    pub(crate) refusal: u16,
+    pub(crate) start: usize,
+    pub(crate) events: u16,
+    pub(crate) tasks: u16,
+    pub(crate) semaphores: u16,
+    pub(crate) cells: u16,
 }
 
 // A refusal by a record; the number is 0 where there is none.
-pub struct Fault {
-    pub number: u16,
-    pub record: u16,
+pub(crate) struct Fault {
+    pub(crate) number: u16,
+    pub(crate) record: u16,
 }
 
 fn refused(number: u16) -> Header {
@@ -66,12 +66,12 @@ fn refused(number: u16) -> Header {
     }
 }
 
-pub fn in_range(n: usize, tasks: u16, semaphores: u16, cells: u16) -> bool {
+pub(crate) fn in_range(n: usize, tasks: u16, semaphores: u16, cells: u16) -> bool {
     1 <= tasks && tasks <= 16 && semaphores <= 64 && cells <= 1024 && n <= 1024
 }
 
 // Refusals 1 to 4.
-pub fn trailer(file: &[u8]) -> Header {
+pub(crate) fn trailer(file: &[u8]) -> Header {
     let size = file.len();
     if size < 16 {
         return refused(1);
@@ -251,7 +251,7 @@ fn step(
 }
 
 // The records in order, up to the first faulty one.
-pub fn scan(
+pub(crate) fn scan(
     records: &[u8],
     h: Header,
     events: &mut [u16],

@@ -15,9 +15,9 @@ use crate::scan::ENDED;
 use crate::scan::FORKED;
 use crate::scan::TAKEN;
 
-pub struct Passes {
-    pub passes: u32,
-    pub settled: bool,
+pub(crate) struct Passes {
+    pub(crate) passes: u32,
+    pub(crate) settled: bool,
 }
 
 fn clear(v: &mut [u16]) {
@@ -32,7 +32,7 @@ fn own_numbers(events: &[u16], n: u16, v: &mut [u16]) {
     }
 }
 
-pub fn start(events: &[u16], n: u16, v: &mut [u16]) {
+fn start(events: &[u16], n: u16, v: &mut [u16]) {
     clear(v);
     own_numbers(events, n, v);
 }
@@ -75,7 +75,7 @@ fn follow(v: &mut [u16], links: &[u16], e: u16) -> bool {
 }
 
 // The recorded vectors.
-pub fn replay(events: &[u16], links: &[u16], n: u16, v: &mut [u16]) {
+pub(crate) fn replay(events: &[u16], links: &[u16], n: u16, v: &mut [u16]) {
     start(events, n, v);
     replay_all(links, n, v);
 }
@@ -88,7 +88,7 @@ fn replay_all(links: &[u16], n: u16, v: &mut [u16]) {
 }
 
 // Event a is ordered before event b.
-pub fn before(events: &[u16], v: &[u16], a: u16, b: u16) -> bool {
+pub(crate) fn before(events: &[u16], v: &[u16], a: u16, b: u16) -> bool {
     a != b && get(events, a, POSITION) <= at(v, place(b, get(events, a, TASK)))
 }
 
@@ -189,7 +189,7 @@ fn pass(events: &[u16], links: &[u16], n: u16, v: &mut [u16]) -> bool {
 }
 
 // The safe vectors.
-pub fn run(events: &[u16], links: &[u16], n: u16, budget: u32, v: &mut [u16]) -> Passes {
+pub(crate) fn run(events: &[u16], links: &[u16], n: u16, budget: u32, v: &mut [u16]) -> Passes {
     start(events, n, v);
     run_passes(events, links, n, budget, v)
 }

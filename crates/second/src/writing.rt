@@ -28,7 +28,14 @@ fn put_trailer(out: &mut [u8], n: u16, tasks: u16, semaphores: u16, cells: u16) 
 }
 
 // The records, then the trailer.
-pub fn put_file(records: &[u8], n: u16, tasks: u16, semaphores: u16, cells: u16, out: &mut [u8]) {
+pub(crate) fn put_file(
+    records: &[u8],
+    n: u16,
+    tasks: u16,
+    semaphores: u16,
+    cells: u16,
+    out: &mut [u8],
+) {
     copy(records, out);
     let t = records.len();
     if t <= out.len() {
