@@ -1,6 +1,24 @@
 // A second analyser, for tests: what document 01 asks, by another method. One reading fills arrays of
 // state and queues of signals, the k-th least and the list are sorted by counting. It is proved safe,
-// and its results are not proved: the trial compares them with the library's.
+// with the range of each number that it answers and what a refusal leaves; that the numbers are right is
+// not proved: the trial compares them with the library's.
+ghost use mathlib.Core.Path.{_≡_};
+ghost use Prim.Native.Nat.{_+_, _≤_};
+ghost use lib.ListN.{length};
+ghost use Rattle.second.specs.Answers.{
+  Refused,
+  Headed,
+  Read,
+  Analysed,
+  Unanalysed,
+  QuestionFault,
+  Replied,
+  Unanswered,
+  WritingFault,
+  Written,
+  Unsent,
+};
+
 mod listing;
 mod memory;
 mod scan;
@@ -41,10 +59,15 @@ pub struct Sent {
     pub length: usize,
 }
 
-fn told(h: scan::Header, number: u16, record: u16) -> Reading {
+// Reads a file, and leaves its events, four numbers each, and their links.
+fn load(file: &[u8], events: &mut [u16], links: &mut [u16]) -> Reading
+    ensures { λ r. ⌜ Read (length (now (file .entry))) r ⌝ }
+{
+    let h = scan::trailer(file);
+    let fault = scan::first_fault(file, h, events, links);
     Reading {
-        refusal: number,
-        record,
+        refusal: fault.number,
+        record: fault.record,
         start: h.start,
         events: h.events,
         tasks: h.tasks,
@@ -53,32 +76,12 @@ fn told(h: scan::Header, number: u16, record: u16) -> Reading {
     }
 }
 
-// Reads a file, and leaves its events, four numbers each, and their links.
-fn load(file: &[u8], events: &mut [u16], links: &mut [u16]) -> Reading {
-    let h = scan::trailer(file);
-    let start = h.start;
-    if h.refusal != 0 || file.len() < start {
-        return told(h, h.refusal, 0);
-    }
-    let mut state = [0u16; 2800];
-    let fault = scan::scan(&file[start..], h, events, links, &mut state);
-    told(h, fault.number, fault.record)
-}
-
-pub fn read(file: &[u8]) -> Reading {
+pub fn read(file: &[u8]) -> Reading
+    ensures { λ r. ⌜ Read (length (now (file .entry))) r ⌝ }
+{
     let mut events = [0u16; 4096];
     let mut links = [0u16; 4096];
     load(file, &mut events, &mut links)
-}
-
-fn refused(number: u16, record: u16) -> Outcome {
-    Outcome {
-        refusal: number,
-        record,
-        pairs: 0,
-        passes: 0,
-        settled: false,
-    }
 }
 
 // Whether room is less than 2 × N × T.
@@ -88,6 +91,46 @@ fn lacks_room(r: Reading, room: usize) -> bool {
         return false;
     }
     room / share < r.events as usize
+}
+
+// The refusal of a reading, or else 9 where room is less than 2 × N × T.
+fn work_fault(r: Reading, room: usize) -> scan::Fault
+    requires { ⌜ Refused 8 1024 (r .refusal) (r .«record») ⌝ }
+    ensures { λ f. ⌜ Refused 9 1024 (f .number) (f .«record») ⌝ }
+{
+    if r.refusal != 0 {
+        return scan::Fault {
+            number: r.refusal,
+            record: r.record,
+        };
+    }
+    let number = if lacks_room(r, room) { 9 } else { 0 };
+    scan::Fault { number, record: 0 }
+}
+
+// Fills the safe and the recorded vectors, and lists the pairs of n events.
+fn analyse_events(
+    events: &[u16],
+    links: &[u16],
+    n: u16,
+    budget: u32,
+    slots: usize,
+    safe: &mut [u16],
+    recorded: &mut [u16],
+    list: &mut [u16],
+) -> Outcome
+    ensures { λ o. ⌜ Analysed budget slots o × (1 ≤ o .refusal → o .refusal ≡ 10) ⌝ }
+{
+    let run = vectors::run(events, links, n, budget, safe);
+    vectors::replay(events, links, n, recorded);
+    let pairs = listing::list_pairs(events, n, safe, recorded, list);
+    Outcome {
+        refusal: if slots / 3 < pairs as usize { 10 } else { 0 },
+        record: 0,
+        pairs,
+        passes: run.passes,
+        settled: run.settled,
+    }
 }
 
 // Analyses a file for a caller that lends room work numbers and slots numbers for the list. Safe and
@@ -100,30 +143,30 @@ pub fn analyse(
     safe: &mut [u16],
     recorded: &mut [u16],
     list: &mut [u16],
-) -> Outcome {
+) -> Outcome
+    ensures { λ o. ⌜ Analysed budget slots o ⌝ }
+    ensures { λ o. ⌜ (1 ≤ o .refusal → o .refusal ≤ 9 → Unanalysed o (now (safe .entry)) (now (recorded .entry)) (now (list .entry)) (now (safe .exit)) (now (recorded .exit)) (now (list .exit))) ⌝ }
+{
     let mut events = [0u16; 4096];
     let mut links = [0u16; 4096];
     let r = load(file, &mut events, &mut links);
-    if r.refusal != 0 {
-        return refused(r.refusal, r.record);
-    }
-    if lacks_room(r, room) {
-        return refused(9, 0);
+    let fault = work_fault(r, room);
+    if fault.number != 0 {
+        return Outcome {
+            refusal: fault.number,
+            record: fault.record,
+            pairs: 0,
+            passes: 0,
+            settled: false,
+        };
     }
     let n = r.events;
-    let run = vectors::run(&events, &links, n, budget, safe);
-    vectors::replay(&events, &links, n, recorded);
-    let pairs = listing::list_pairs(&events, n, safe, recorded, list);
-    Outcome {
-        refusal: if slots / 3 < pairs as usize { 10 } else { 0 },
-        record: 0,
-        pairs,
-        passes: run.passes,
-        settled: run.settled,
-    }
+    analyse_events(&events, &links, n, budget, slots, safe, recorded, list)
 }
 
-fn related(events: &[u16], safe: &[u16], recorded: &[u16], a: u16, b: u16) -> u16 {
+fn related(events: &[u16], safe: &[u16], recorded: &[u16], a: u16, b: u16) -> u16
+    ensures { λ r. ⌜ (1 ≤ r) × (r ≤ 4) ⌝ }
+{
     if vectors::before(events, safe, a, b) {
         return 1;
     }
@@ -137,6 +180,52 @@ fn related(events: &[u16], safe: &[u16], recorded: &[u16], a: u16, b: u16) -> u1
     }
 }
 
+// Fills the safe and the recorded vectors of n events, and answers how a and b stand to each other.
+fn ask_events(
+    events: &[u16],
+    links: &[u16],
+    n: u16,
+    a: u16,
+    b: u16,
+    budget: u32,
+    safe: &mut [u16],
+    recorded: &mut [u16],
+) -> u16
+    ensures { λ r. ⌜ (1 ≤ r) × (r ≤ 4) ⌝ }
+{
+    vectors::run(events, links, n, budget, safe);
+    vectors::replay(events, links, n, recorded);
+    related(events, safe, recorded, a, b)
+}
+
+// The refusal of a reading, or else 11, or else 9.
+fn question_fault(r: Reading, a: usize, b: usize, room: usize) -> scan::Fault
+    requires { ⌜ (r .events ≤ 1024) × Refused 8 1024 (r .refusal) (r .«record») ⌝ }
+    ensures { λ f. ⌜ QuestionFault a b (f .number) (f .«record») ⌝ }
+{
+    if r.refusal != 0 {
+        return scan::Fault {
+            number: r.refusal,
+            record: r.record,
+        };
+    }
+    let event = scan::Fault {
+        number: 11,
+        record: 0,
+    };
+    let n = r.events as usize;
+    if n <= a {
+        return event;
+    }
+    if n <= b {
+        return event;
+    }
+    if a == b {
+        return event;
+    }
+    work_fault(r, room)
+}
+
 // Answers a question about two events, for a caller that lends room work numbers.
 pub fn ask(
     file: &[u8],
@@ -146,58 +235,62 @@ pub fn ask(
     room: usize,
     safe: &mut [u16],
     recorded: &mut [u16],
-) -> Reply {
+) -> Reply
+    ensures { λ r. ⌜ Replied a b r ⌝ }
+    ensures { λ r. ⌜ (1 ≤ r .refusal → Unanswered r (now (safe .entry)) (now (recorded .entry)) (now (safe .exit)) (now (recorded .exit))) ⌝ }
+{
     let mut events = [0u16; 4096];
     let mut links = [0u16; 4096];
     let r = load(file, &mut events, &mut links);
-    let n = r.events;
-    let mut refusal = r.refusal;
-    if refusal == 0 && (n as usize <= a || n as usize <= b || a == b) {
-        refusal = 11;
-    }
-    if refusal == 0 && lacks_room(r, room) {
-        refusal = 9;
-    }
-    if refusal != 0 {
+    let fault = question_fault(r, a, b, room);
+    if fault.number != 0 {
         return Reply {
-            refusal,
-            record: r.record,
+            refusal: fault.number,
+            record: fault.record,
             answer: 0,
         };
     }
-    vectors::run(&events, &links, n, budget, safe);
-    vectors::replay(&events, &links, n, recorded);
+    let n = r.events;
+    let answer = ask_events(
+        &events,
+        &links,
+        n,
+        a as u16,
+        b as u16,
+        budget,
+        safe,
+        recorded,
+    );
     Reply {
         refusal: 0,
         record: 0,
-        answer: related(
-            &events,
-            safe,
-            recorded,
-            (a % 65536) as u16,
-            (b % 65536) as u16,
-        ),
+        answer,
     }
 }
 
-// Refusals 3 and 4 of writing.
-fn counted(records: &[u8], tasks: u16, semaphores: u16, cells: u16) -> scan::Header {
-    let n = records.len() / 4;
-    let mut refusal = 0;
-    if !scan::in_range(n, tasks, semaphores, cells) {
-        refusal = 4;
-    }
+// Refusals 3 and 4 of writing, or the header of the file to write.
+fn counted(records: &[u8], tasks: u16, semaphores: u16, cells: u16) -> scan::Header
+    ensures { λ h. ⌜ Headed (length (now (records .entry)) + 16) h ⌝ }
+{
     if records.len() % 4 != 0 {
-        refusal = 3;
+        return scan::refused(3);
     }
-    scan::Header {
-        refusal,
-        start: 0,
-        events: (n % 65536) as u16,
-        tasks,
-        semaphores,
-        cells,
+    scan::ranged(0, records.len() / 4, tasks, semaphores, cells)
+}
+
+// The refusal of the counts or of a record, or else 12 where room is less than the file needs.
+fn writing_fault(records: &[u8], h: scan::Header, room: usize) -> scan::Fault
+    requires { ⌜ Headed (length (now records) + 16) h ⌝ }
+    ensures { λ f. ⌜ WritingFault (length (now (records .entry))) room (f .number) (f .«record») ⌝ }
+{
+    let mut events = [0u16; 4096];
+    let mut links = [0u16; 4096];
+    let fault = scan::first_fault(records, h, &mut events, &mut links);
+    if fault.number != 0 {
+        return fault;
     }
+    let number = if room < records.len() + 16 { 12 } else { 0 };
+    scan::Fault { number, record: 0 }
 }
 
 // Writes a file for a caller that lends room bytes, to out.
@@ -208,21 +301,12 @@ pub fn write(
     cells: u16,
     room: usize,
     out: &mut [u8],
-) -> Sent {
+) -> Sent
+    ensures { λ s. ⌜ Written (length (now (records .entry))) room s ⌝ }
+    ensures { λ s. ⌜ (1 ≤ s .refusal → Unsent s (now (out .entry)) (now (out .exit))) ⌝ }
+{
     let h = counted(records, tasks, semaphores, cells);
-    let mut fault = scan::Fault {
-        number: h.refusal,
-        record: 0,
-    };
-    if fault.number == 0 {
-        let mut events = [0u16; 4096];
-        let mut links = [0u16; 4096];
-        let mut state = [0u16; 2800];
-        fault = scan::scan(records, h, &mut events, &mut links, &mut state);
-    }
-    if fault.number == 0 && (room < 16 || room - 16 < records.len()) {
-        fault.number = 12;
-    }
+    let fault = writing_fault(records, h, room);
     if fault.number != 0 {
         return Sent {
             refusal: fault.number,
@@ -234,10 +318,6 @@ pub fn write(
     Sent {
         refusal: 0,
         record: 0,
-        length: if records.len() < 65536 {
-            records.len() + 16
-        } else {
-            0
-        },
+        length: records.len() + 16,
     }
 }

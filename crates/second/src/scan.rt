@@ -1,6 +1,10 @@
 // One reading of a file, from the first record to the last: the refusals, each record's place in its
 // task, and the events that it follows. The state is a slice of numbers by task and by semaphore;
 // an event in it is its number plus 1, and 0 stands for none.
+ghost use mathlib.Core.Path.{_≡_};
+ghost use Prim.Native.Nat.{ℕ, _+_, _*_, _≤_};
+ghost use lib.ListN.{length};
+ghost use Rattle.second.specs.Answers.{Refused, RecordFault, Headed, Blank, FirstFault};
 use crate::memory::KIND;
 use crate::memory::OBJECT;
 use crate::memory::POSITION;
@@ -55,7 +59,10 @@ pub(crate) struct Fault {
     pub(crate) record: u16,
 }
 
-fn refused(number: u16) -> Header {
+// A header with nothing but a refusal.
+pub(crate) fn refused(number: u16) -> Header
+    ensures { λ h. ⌜ Blank number h ⌝ }
+{
     Header {
         refusal: number,
         start: 0,
@@ -66,12 +73,39 @@ fn refused(number: u16) -> Header {
     }
 }
 
-pub(crate) fn in_range(n: usize, tasks: u16, semaphores: u16, cells: u16) -> bool {
-    1 <= tasks && tasks <= 16 && semaphores <= 64 && cells <= 1024 && n <= 1024
+// A header of these counts, or refusal 4 where one is beyond its range.
+pub(crate) fn ranged(start: usize, n: usize, tasks: u16, semaphores: u16, cells: u16) -> Header
+    ensures { λ h. ⌜ Headed (start + 4 * n + 16) h ⌝ }
+{
+    if tasks < 1 {
+        return refused(4);
+    }
+    if 16 < tasks {
+        return refused(4);
+    }
+    if 64 < semaphores {
+        return refused(4);
+    }
+    if 1024 < cells {
+        return refused(4);
+    }
+    if 1024 < n {
+        return refused(4);
+    }
+    Header {
+        refusal: 0,
+        start,
+        events: n as u16,
+        tasks,
+        semaphores,
+        cells,
+    }
 }
 
 // Refusals 1 to 4.
-pub(crate) fn trailer(file: &[u8]) -> Header {
+pub(crate) fn trailer(file: &[u8]) -> Header
+    ensures { λ h. ⌜ Headed (length (now (file .entry))) h ⌝ }
+{
     let size = file.len();
     if size < 16 {
         return refused(1);
@@ -86,20 +120,7 @@ pub(crate) fn trailer(file: &[u8]) -> Header {
     if start + 4 * records != end {
         return refused(3);
     }
-    let tasks = word(t, 8);
-    let semaphores = word(t, 10);
-    let cells = word(t, 12);
-    if !in_range(records, tasks, semaphores, cells) {
-        return refused(4);
-    }
-    Header {
-        refusal: 0,
-        start,
-        events: (records % 65536) as u16,
-        tasks,
-        semaphores,
-        cells,
-    }
+    ranged(start, records, word(t, 8), word(t, 10), word(t, 12))
 }
 
 fn slot(base: u16, i: u16) -> usize {
@@ -146,7 +167,9 @@ fn life_broken(state: &[u16], task: u16, kind: u16, object: u16) -> bool {
 }
 
 // Refusals 5 to 8 of record e; 0 for none.
-fn fault_of(events: &[u16], e: u16, h: Header, state: &[u16]) -> u16 {
+fn fault_of(events: &[u16], e: u16, h: Header, state: &[u16]) -> u16
+    ensures { λ r. ⌜ RecordFault r ⌝ }
+{
     let task = get(events, e, TASK);
     let kind = get(events, e, KIND);
     let object = get(events, e, OBJECT);
@@ -240,7 +263,9 @@ fn step(
     events: &mut [u16],
     links: &mut [u16],
     state: &mut [u16],
-) -> u16 {
+) -> u16
+    ensures { λ r. ⌜ RecordFault r ⌝ }
+{
     decode(records, e, events);
     let number = fault_of(events, e, h, state);
     if number != 0 {
@@ -257,7 +282,9 @@ pub(crate) fn scan(
     events: &mut [u16],
     links: &mut [u16],
     state: &mut [u16],
-) -> Fault {
+) -> Fault
+    ensures { λ f. ⌜ Refused 8 (h .events) (f .number) (f .«record») ⌝ }
+{
     let n = h.events;
     for e in 0..n {
         let number = step(records, e, h, events, links, state);
@@ -269,4 +296,20 @@ pub(crate) fn scan(
         number: 0,
         record: 0,
     }
+}
+
+// The refusal of a header, or else of the first faulty record behind its start.
+pub(crate) fn first_fault(file: &[u8], h: Header, events: &mut [u16], links: &mut [u16]) -> Fault
+    requires { ⌜ (h .refusal ≤ 4) × (h .start ≤ length (now file)) ⌝ }
+    ensures { λ f. ⌜ FirstFault h f ⌝ }
+{
+    if h.refusal != 0 {
+        return Fault {
+            number: h.refusal,
+            record: 0,
+        };
+    }
+    let start = h.start;
+    let mut state = [0u16; 2800];
+    scan(&file[start..], h, events, links, &mut state)
 }

@@ -1,5 +1,6 @@
 // Safe and recorded vectors, sixteen numbers an event. The k-th least is found by counting how often
 // each value occurs.
+ghost use Rattle.second.specs.Answers.{Passed};
 use crate::memory::KIND;
 use crate::memory::OBJECT;
 use crate::memory::POSITION;
@@ -9,7 +10,6 @@ use crate::memory::get;
 use crate::memory::place;
 use crate::memory::put;
 use crate::memory::up;
-use crate::memory::up_total;
 use crate::scan::BEFORE;
 use crate::scan::ENDED;
 use crate::scan::FORKED;
@@ -189,17 +189,21 @@ fn pass(events: &[u16], links: &[u16], n: u16, v: &mut [u16]) -> bool {
 }
 
 // The safe vectors.
-pub(crate) fn run(events: &[u16], links: &[u16], n: u16, budget: u32, v: &mut [u16]) -> Passes {
+pub(crate) fn run(events: &[u16], links: &[u16], n: u16, budget: u32, v: &mut [u16]) -> Passes
+    ensures { λ r. ⌜ Passed budget (r .passes) (r .settled) ⌝ }
+{
     start(events, n, v);
     run_passes(events, links, n, budget, v)
 }
 
-fn run_passes(events: &[u16], links: &[u16], n: u16, budget: u32, v: &mut [u16]) -> Passes {
-    let mut passes = 0;
+fn run_passes(events: &[u16], links: &[u16], n: u16, budget: u32, v: &mut [u16]) -> Passes
+    ensures { λ r. ⌜ Passed budget (r .passes) (r .settled) ⌝ }
+{
+    let mut passes: u32 = 0;
     let mut left = budget;
     while left > 0 {
         left -= 1;
-        passes = up_total(passes);
+        passes += 1;
         if !pass(events, links, n, v) {
             return Passes {
                 passes,

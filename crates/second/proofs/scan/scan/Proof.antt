@@ -1,8 +1,9 @@
--- `second::scan::scan` is safe and ends. Lengths are kept. The measure is what is left of the range. Assumes nothing.
+-- `second::scan::scan` meets its contract. Lengths are kept. The measure is what is left of the range. Assumes nothing.
 use mathlib.Core.Path.{_≡_}
 use lib.ListN.{length}
 use Prim.Native.Nat.{_-_}
 use native.Mathlib.Omega.{arith}
+use borrow.Author.Needs.{needs}
 use Rattle.second.proofs.scan.scan.Statement.{statement}
 use Rattle.second.proofs.scan.scan.Tie as tie
 
@@ -11,6 +12,10 @@ Inv-loop records h events₀ links₀ state₀ n e₀ events links state e = (le
 
 abbrev μ-loop : tie.MeasureT-loop
 μ-loop records h events₀ links₀ state₀ n e₀ events links state e = n - e
+
+-- a faulty record
+returns : tie.Need-returns Inv-loop μ-loop
+returns c = let k = c .before .before .before .before .before .before .before .step .ensures .least (omega arith) in search needs
 
 pub scan-spec : {M : Type 1} → statement M
 scan-spec =
@@ -23,11 +28,11 @@ scan-spec =
     (λ c. omega arith)
     (λ c. omega arith)
     (λ c. omega arith)
-    (λ c. tt)
+    returns
     (λ c. omega arith)
     (λ c. omega arith)
     (λ c. omega arith)
     (λ c. omega arith)
     (λ c. omega arith)
     (λ c. omega arith)
-    (λ c. tt))
+    (λ c. search needs))

@@ -1,0 +1,57 @@
+-- `second::ask` meets its contract: a refused question leaves what was lent. Assumes nothing.
+use native.Mathlib.Omega.{arith}
+use lib.Dec.{lit≤}
+use Rattle.second.proofs.Laws.{wider}
+use borrow.Author.Needs.{needs}
+use Rattle.second.proofs.ask.Statement.{statement}
+use Rattle.second.proofs.ask.Tie as tie
+
+question-fault-requires : tie.Need-question-fault-requires
+question-fault-requires c κs =
+    let r = c .before .before .load .ensures in
+    (r .ranges .events, wider (r .refusal) (lit≤ tt) (r .ranges .events))
+
+-- refused
+returns : tie.Need-returns
+returns c = (
+  record { fault = c .before .before .question-fault .ensures; least = λ e. absurd (c .if1 .taken e); most = search needs },
+  λ _. search needs,
+)
+
+-- an event's number fits
+cast-ask-events : tie.Need-cast-ask-events
+cast-ask-events c = omega (arith, c .before .before .before .before .question-fault .ensures .events (c .before .before .if1 .left) .0)
+
+cast-ask-events-2 : tie.Need-cast-ask-events-2
+cast-ask-events-2 c = omega (arith, c .before .before .before .before .question-fault .ensures .events (c .before .before .if1 .left) .1)
+
+-- answered
+returns-2 : tie.Need-returns-2
+returns-2 c =
+    let q = c .before .before .before .before .before .before .before .before .before .before .before .question-fault .ensures in
+    let e = c .before .before .before .before .before .before .before .before .before .if1 .left in (
+      record {
+        fault = record { refusal = search needs; noList = λ p. omega arith; events = λ _. q .events e; different = λ _. q .different e };
+        least = λ _. omega arith;
+        most = omega arith;
+      },
+      λ p. absurd (omega arith),
+    )
+
+pub ask-spec : {M : Type 1} → statement M
+ask-spec =
+    tie.close
+    (tie.spec
+    (λ c. search needs)
+    (λ c. search needs)
+    (λ c κs. search needs)
+    question-fault-requires
+    returns
+    (λ c. search needs)
+    (λ c. search needs)
+    cast-ask-events
+    cast-ask-events-2
+    (λ c κs. search needs)
+    (λ c. search needs)
+    (λ c. search needs)
+    returns-2)

@@ -1,0 +1,120 @@
+-- What the functions answer: the range of each number, and what a refusal leaves. What the numbers are is not stated: the trial
+-- compares them.
+-- Assumes nothing.
+use Prim.Native.Nat.{ℕ, _+_, _-_, _*_, _/_, _≤_, _<_}
+use mathlib.Core.Path.{_≡_}
+use mathlib.Core.Bool.{Bool, true, false}
+use mathlib.Core.List.{List}
+use Rattle.second.specs.declared.Reading.{Reading}
+use Rattle.second.specs.declared.Outcome.{Outcome}
+use Rattle.second.specs.declared.Reply.{Reply}
+use Rattle.second.specs.declared.Sent.{Sent}
+use Rattle.second.specs.declared.scan.Header.{Header}
+use Rattle.second.specs.declared.scan.Fault.{Fault}
+
+-- a refusal, at most so high: 5 to 8 name one of n records, and every other number, 0 too, names record 0
+pub record Refused (top n number at : ℕ) : Type 0 where
+  pub most : number ≤ top
+  pub fault : 5 ≤ number → number ≤ 8 → at < n
+  pub early : number < 5 → at ≡ 0
+  pub late : 8 < number → at ≡ 0
+
+-- the fault of a record: 5 to 8, or 0 for none
+pub record RecordFault (number : ℕ) : Type 0 where
+  pub most : number ≤ 8
+  pub least : 1 ≤ number → 5 ≤ number
+
+-- events, tasks, semaphores and cells that are not beyond their ranges
+pub record Ranged (n t s c : ℕ) : Type 0 where
+  pub events : n ≤ 1024
+  pub tasks : t ≤ 16
+  pub semaphores : s ≤ 64
+  pub cells : c ≤ 1024
+
+-- a header of a file of so many bytes: refusals 1 to 4, or at least one task, and a start and records that meet the length
+pub record Headed (size : ℕ) (h : Header) : Type 0 where
+  pub refusal : h .refusal ≤ 4
+  pub ranges : Ranged (h .events) (h .tasks) (h .semaphores) (h .cells)
+  pub within : h .start + 4 * h .events ≤ size - 16
+  pub task : h .refusal ≡ 0 → 1 ≤ h .tasks
+  pub extent : h .refusal ≡ 0 → h .start + 4 * h .events + 16 ≡ size
+
+-- a header that says nothing but its refusal
+pub record Blank (number : ℕ) (h : Header) : Type 0 where
+  pub refusal : h .refusal ≡ number
+  pub start : h .start ≡ 0
+  pub events : h .events ≡ 0
+  pub tasks : h .tasks ≡ 0
+  pub semaphores : h .semaphores ≡ 0
+  pub cells : h .cells ≡ 0
+
+-- the first fault of a header and the records behind its start
+pub record FirstFault (h : Header) (f : Fault) : Type 0 where
+  pub refusal : Refused 8 (h .events) (f .number) (f .«record»)
+  pub header : f .number ≡ 0 → h .refusal ≡ 0
+
+-- a reading of a file of so many bytes
+pub record Read (size : ℕ) (r : Reading) : Type 0 where
+  pub refusal : Refused 8 (r .events) (r .refusal) (r .«record»)
+  pub ranges : Ranged (r .events) (r .tasks) (r .semaphores) (r .cells)
+  pub task : r .refusal ≡ 0 → 1 ≤ r .tasks
+  pub extent : r .refusal ≡ 0 → r .start + 4 * r .events + 16 ≡ size
+
+-- a run of passes: unless its last one was quiet, it spends the budget
+pub record Passed (budget passes : ℕ) (settled : Bool) : Type 0 where
+  pub most : passes ≤ budget
+  pub quiet : settled ≡ true → 1 ≤ passes
+  pub spent : settled ≡ false → passes ≡ budget
+
+-- analysing with a budget, and so many numbers for the list
+pub record Analysed (budget slots : ℕ) (o : Outcome) : Type 0 where
+  pub refusal : Refused 10 1024 (o .refusal) (o .«record»)
+  pub passes : o .passes ≤ budget
+  pub run : o .refusal ≡ 0 → Passed budget (o .passes) (o .settled)
+  pub fits : o .refusal ≡ 0 → 3 * o .pairs ≤ slots
+  pub full : o .refusal ≡ 10 → slots < 3 * o .pairs
+
+-- refusals 1 to 9 of analysing have made no pass and no pair, and leave the lent numbers as they came
+pub record Unanalysed (o : Outcome) (v w l v′ w′ l′ : List ℕ) : Type 0 where
+  pub pairs : o .pairs ≡ 0
+  pub passes : o .passes ≡ 0
+  pub settled : o .settled ≡ false
+  pub safe : v′ ≡ v
+  pub recorded : w′ ≡ w
+  pub list : l′ ≡ l
+
+-- the refusal of a question about the events a and b
+pub record QuestionFault (a b number at : ℕ) : Type 0 where
+  pub refusal : Refused 11 1024 number at
+  pub noList : number ≡ 10 → ⊥
+  pub events : number ≡ 0 → (a < 1024) × (b < 1024)
+  pub different : number ≡ 0 → a ≡ b → ⊥
+
+-- a question about the events a and b
+pub record Replied (a b : ℕ) (r : Reply) : Type 0 where
+  pub fault : QuestionFault a b (r .refusal) (r .«record»)
+  pub least : r .refusal ≡ 0 → 1 ≤ r .answer
+  pub most : r .answer ≤ 4
+
+-- a refused question has no answer, and leaves the lent numbers as they came
+pub record Unanswered (r : Reply) (v w v′ w′ : List ℕ) : Type 0 where
+  pub answer : r .answer ≡ 0
+  pub safe : v′ ≡ v
+  pub recorded : w′ ≡ w
+
+-- the refusal of writing so many record bytes, with room for so many bytes
+pub record WritingFault (size room number at : ℕ) : Type 0 where
+  pub refusal : Refused 12 (size / 4) number at
+  pub late : 8 < number → number ≡ 12
+  pub fits : number ≡ 0 → size + 16 ≤ room
+  pub out : number ≡ 12 → room < size + 16
+
+-- writing so many record bytes, with room for so many bytes
+pub record Written (size room : ℕ) (s : Sent) : Type 0 where
+  pub fault : WritingFault size room (s .refusal) (s .«record»)
+  pub length : s .refusal ≡ 0 → s .length ≡ size + 16
+
+-- refused record bytes have no length, and leave the lent bytes as they came
+pub record Unsent (s : Sent) (o o′ : List ℕ) : Type 0 where
+  pub length : s .length ≡ 0
+  pub out : o′ ≡ o
