@@ -76,6 +76,7 @@ fn load(file: &[u8], events: &mut [u16], links: &mut [u16]) -> Reading
     }
 }
 
+// Reads a file, for what its trailer says or its refusal.
 pub fn read(file: &[u8]) -> Reading
     ensures { λ r. ⌜ Read (length (now (file .entry))) r ⌝ }
 {
@@ -134,7 +135,8 @@ fn analyse_events(
 }
 
 // Analyses a file for a caller that lends room work numbers and slots numbers for the list. Safe and
-// recorded vectors are left in rows of sixteen numbers, and what fits of the list.
+// recorded vectors are left in rows of sixteen numbers, and what fits of the list; refusals 1 to 9 leave
+// what was lent as it came.
 pub fn analyse(
     file: &[u8],
     budget: u32,
@@ -164,6 +166,7 @@ pub fn analyse(
     analyse_events(&events, &links, n, budget, slots, safe, recorded, list)
 }
 
+// How events a and b stand to each other: 1 a first, 2 b first, 3 open, 4 sure.
 fn related(events: &[u16], safe: &[u16], recorded: &[u16], a: u16, b: u16) -> u16
     ensures { λ r. ⌜ (1 ≤ r) × (r ≤ 4) ⌝ }
 {
@@ -226,7 +229,8 @@ fn question_fault(r: Reading, a: usize, b: usize, room: usize) -> scan::Fault
     work_fault(r, room)
 }
 
-// Answers a question about two events, for a caller that lends room work numbers.
+// Answers a question about two events, for a caller that lends room work numbers. A refusal leaves what
+// was lent as it came.
 pub fn ask(
     file: &[u8],
     a: usize,
@@ -293,7 +297,7 @@ fn writing_fault(records: &[u8], h: scan::Header, room: usize) -> scan::Fault
     scan::Fault { number, record: 0 }
 }
 
-// Writes a file for a caller that lends room bytes, to out.
+// Writes a file for a caller that lends room bytes, to out. A refusal leaves out as it came.
 pub fn write(
     records: &[u8],
     tasks: u16,
