@@ -45,7 +45,7 @@ fn same_answer(answer: Analysis, o: second::Outcome) -> bool {
 }
 
 // N × T.
-pub fn product(n: u16, t: u16) -> usize {
+fn product(n: u16, t: u16) -> usize {
     n as usize * t as usize
 }
 
@@ -167,7 +167,7 @@ fn part_analysis(
 }
 
 // Analysing, with these sizes of lent memory.
-pub fn analysis_agrees(file: &[u8], budget: u32, room: usize, slots: usize) -> bool {
+fn analysis_agrees(file: &[u8], budget: u32, room: usize, slots: usize) -> bool {
     let mut work = [0u16; 32800];
     let mut list = [0u16; 24600];
     part_analysis(file, budget, room, slots, &mut work, &mut list)
@@ -205,7 +205,7 @@ fn part_question(
 }
 
 // A question, with this size of lent memory.
-pub fn question_agrees(file: &[u8], a: usize, b: usize, budget: u32, room: usize) -> bool {
+pub(crate) fn question_agrees(file: &[u8], a: usize, b: usize, budget: u32, room: usize) -> bool {
     let mut work = [0u16; 32800];
     part_question(file, a, b, budget, room, &mut work)
 }
@@ -251,6 +251,18 @@ fn same_walk(records: &[u8], n: u16) -> bool {
     same_step(records, n, n) && same_step(records, 65535, n)
 }
 
+// A part that lacks its last byte has one whole record less.
+fn same_cut_walk(records: &[u8], n: u16) -> bool {
+    let size = records.len();
+    if size == 0 {
+        return true;
+    }
+    if n == 0 {
+        return false;
+    }
+    same_walk(&records[0..size - 1], n - 1)
+}
+
 // The two parts of an accepted file start at 0 and at the first record.
 fn same_parts(file: &[u8], preamble: &[u8], records: &[u8], r: second::Reading) -> bool {
     let start = r.start;
@@ -264,7 +276,7 @@ fn same_parts(file: &[u8], preamble: &[u8], records: &[u8], r: second::Reading) 
 }
 
 // Reading, the preamble, the records' part and the walk.
-pub fn reading_agrees(file: &[u8]) -> bool {
+pub(crate) fn reading_agrees(file: &[u8]) -> bool {
     let r = second::read(file);
     let preamble = recording::preamble(file);
     let records = recording::records(file);
@@ -274,7 +286,9 @@ pub fn reading_agrees(file: &[u8]) -> bool {
     if r.refusal != 0 {
         return preamble.len() == 0 && records.len() == 0 && same_walk(records, 0);
     }
-    same_parts(file, preamble, records, r) && same_walk(records, r.events)
+    same_parts(file, preamble, records, r)
+        && same_walk(records, r.events)
+        && same_cut_walk(records, r.events)
 }
 
 fn same_written(written: Written, o: second::Sent) -> bool {
@@ -341,13 +355,7 @@ fn recording_length(records: &[u8], tasks: u16, semaphores: u16, cells: u16, roo
 }
 
 // Writing, with this size of lent output.
-pub fn writing_agrees(
-    records: &[u8],
-    tasks: u16,
-    semaphores: u16,
-    cells: u16,
-    room: usize,
-) -> bool {
+fn writing_agrees(records: &[u8], tasks: u16, semaphores: u16, cells: u16, room: usize) -> bool {
     let mut out = [0u8; 8192];
     fill_bytes(&mut out, BYTE_MARK);
     if !part_writing(records, tasks, semaphores, cells, room, &mut out) {
@@ -357,6 +365,63 @@ pub fn writing_agrees(
         return true;
     }
     reads_back(records, tasks, semaphores, cells, &out)
+}
+
+// Writing the bytes from a start to the trailer with these counts, to more output than is needed.
+pub(crate) fn counts_agree(
+    file: &[u8],
+    start: usize,
+    tasks: u16,
+    semaphores: u16,
+    cells: u16,
+) -> bool {
+    let end = file.len();
+    if end < 16 || end - 16 < start {
+        return true;
+    }
+    writing_agrees(&file[start..end - 16], tasks, semaphores, cells, 8192)
+}
+
+// An accepted file with start 0, written again, has its bytes.
+pub(crate) fn rewriting_agrees(file: &[u8]) -> bool {
+    let r = second::read(file);
+    if r.refusal != 0 || r.start != 0 {
+        return true;
+    }
+    let mut out = [0u8; 8192];
+    let records = recording::records(file);
+    recording::write(records, r.tasks, r.semaphores, r.cells, &mut out);
+    same_bytes(&out, file, file.len())
+}
+
+// With nothing lent, a question is refused with this number.
+pub(crate) fn question_refused(file: &[u8], a: usize, b: usize, number: u16) -> bool {
+    let mut safe = [0u16; 1];
+    let mut recorded = [0u16; 1];
+    let o = second::ask(file, a, b, 1, 0, &mut safe, &mut recorded);
+    o.refusal == number && question_agrees(file, a, b, 1, 0)
+}
+
+// With nothing lent, analysing is refused with this number.
+pub(crate) fn analysis_refused(file: &[u8], number: u16) -> bool {
+    let mut safe = [0u16; 1];
+    let mut recorded = [0u16; 1];
+    let mut list = [0u16; 1];
+    let o = second::analyse(file, 1, 0, 0, &mut safe, &mut recorded, &mut list);
+    o.refusal == number && analysis_agrees(file, 1, 0, 0)
+}
+
+// With nothing lent, writing is refused with this number.
+pub(crate) fn writing_refused(
+    records: &[u8],
+    tasks: u16,
+    semaphores: u16,
+    cells: u16,
+    number: u16,
+) -> bool {
+    let mut out = [0u8; 1];
+    let o = second::write(records, tasks, semaphores, cells, 0, &mut out);
+    o.refusal == number && writing_agrees(records, tasks, semaphores, cells, 0)
 }
 
 // How many pairs the second analyser finds.
@@ -369,7 +434,7 @@ fn pairs_of(file: &[u8], budget: u32) -> u32 {
 }
 
 // How many passes the library makes.
-pub fn passes_of(file: &[u8], budget: u32) -> u32 {
+pub(crate) fn passes_of(file: &[u8], budget: u32) -> u32 {
     let mut work = [0u16; 32768];
     let mut list = [0u16; 24576];
     match analysis::analyse(file, budget, &mut work, &mut list) {
@@ -383,7 +448,7 @@ pub fn passes_of(file: &[u8], budget: u32) -> u32 {
 }
 
 // As many work numbers as a file needs.
-pub fn work_needed(file: &[u8]) -> usize {
+pub(crate) fn work_needed(file: &[u8]) -> usize {
     let r = second::read(file);
     twice(product(r.events, r.tasks))
 }
@@ -397,7 +462,7 @@ fn list_needed(file: &[u8], budget: u32) -> usize {
     }
 }
 
-pub fn one_less(x: usize) -> usize {
+pub(crate) fn one_less(x: usize) -> usize {
     if 0 < x { x - 1 } else { 0 }
 }
 
@@ -407,7 +472,7 @@ fn some_more(x: usize) -> usize {
 
 // Analysing with the sizes that are needed, and with other ones: more, one less for the work, one
 // less for the list, one more for both, and none.
-pub fn sized_analysis_agrees(file: &[u8], budget: u32, which: u32) -> bool {
+pub(crate) fn sized_analysis_agrees(file: &[u8], budget: u32, which: u32) -> bool {
     let room = work_needed(file);
     let slots = list_needed(file, budget);
     match which {
@@ -453,7 +518,7 @@ fn sized_writing(records: &[u8], r: second::Reading, which: u32) -> bool {
     }
 }
 
-pub fn sized_writing_agrees(file: &[u8], which: u32) -> bool {
+pub(crate) fn sized_writing_agrees(file: &[u8], which: u32) -> bool {
     let r = second::read(file);
     let start = r.start;
     let end = file.len();

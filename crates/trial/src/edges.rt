@@ -1,6 +1,7 @@
 // Files at the ends of what a trailer may say.
 use crate::bytes::put_byte;
 use crate::bytes::up_by;
+use crate::compare;
 use crate::make;
 use crate::make::Shape;
 use crate::tries::count;
@@ -34,10 +35,22 @@ fn put_edge(file: &mut [u8], length: u32, edge: Edge) {
         semaphores: edge.semaphores,
         cells: edge.cells,
     };
+    make::mark_preamble(file, edge.start);
     put_writes(file, edge.start);
     if 16 <= length {
         make::put_trailer(file, length - 16, edge.start, edge.records, s, edge.edition);
     }
+}
+
+// Writing with the counts of the trailer, in range or not.
+fn written_agrees(file: &[u8], edge: Edge) -> bool {
+    compare::counts_agree(
+        file,
+        edge.start as usize,
+        edge.tasks,
+        edge.semaphores,
+        edge.cells,
+    )
 }
 
 // A file of so many bytes, with writes of cell 0 from the start on, and the number of its refusal.
@@ -49,7 +62,8 @@ fn try_edge(total: u32, length: u32, edge: Edge, number: u16) -> u32 {
     }
     let file = &bytes[0..length as usize];
     let refused = count(total, refused_as(file, number, 0), file);
-    try_reading(try_writing(try_sizes(refused, file, 2), file), file)
+    let written = count(refused, written_agrees(file, edge), file);
+    try_reading(try_writing(try_sizes(written, file, 2), file), file)
 }
 
 // The trailer of a file with this start, records and counts, and edition 1.
@@ -93,7 +107,7 @@ fn try_edition(total: u32, start: u32, edition: u16) -> u32 {
 }
 
 // Counts at and past their ends.
-pub fn try_ranges() {
+pub(crate) fn try_ranges() {
     let mut total = 0;
     total = try_counts(total, 0, 0, 0, 4);
     total = try_counts(total, 1, 0, 0, 0);
@@ -110,7 +124,7 @@ pub fn try_ranges() {
 }
 
 // Lengths, starts and numbers of records that meet, and that do not.
-pub fn try_extents() {
+pub(crate) fn try_extents() {
     let mut total = 0;
     total = try_extent(total, 0, 0, 0, 1);
     total = try_extent(total, 15, 0, 0, 1);
@@ -127,7 +141,7 @@ pub fn try_extents() {
 }
 
 // Sums that meet the length only where they wrap, editions, and the order of the first four refusals.
-pub fn try_trailers() {
+pub(crate) fn try_trailers() {
     let mut total = 0;
     total = try_extent(total, 16, 0, 1073741824, 3);
     total = try_extent(total, 16, 4294967292, 1, 3);

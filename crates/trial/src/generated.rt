@@ -12,12 +12,12 @@ use crate::tries::try_writing;
 
 // How large the recordings of a group are: at least so many events and fewer than so many more, and
 // below so many more than 1 task, 0 semaphores and 0 cells.
-pub struct Sizes {
-    pub least: u16,
-    pub more: u16,
-    pub tasks: u16,
-    pub semaphores: u16,
-    pub cells: u16,
+pub(crate) struct Sizes {
+    pub(crate) least: u16,
+    pub(crate) more: u16,
+    pub(crate) tasks: u16,
+    pub(crate) semaphores: u16,
+    pub(crate) cells: u16,
 }
 
 fn draw_shape(seed: &mut u32, m: Sizes) -> Shape {
@@ -98,7 +98,7 @@ fn try_asked(start: u32, seed: &mut u32, s: Shape) -> u32 {
 }
 
 // So many recordings from a seed, with all sizes of lent memory or one of them.
-pub fn try_drawn(name: &[u8], first: u32, times: u32, m: Sizes, damaged: bool, all: bool) {
+pub(crate) fn try_drawn(name: &[u8], first: u32, times: u32, m: Sizes, damaged: bool, all: bool) {
     let mut seed = first;
     let mut total = 0;
     for i in 0..times {
@@ -109,7 +109,7 @@ pub fn try_drawn(name: &[u8], first: u32, times: u32, m: Sizes, damaged: bool, a
 }
 
 // The question about all pairs of events, for so many recordings.
-pub fn try_all_asked(name: &[u8], first: u32, times: u32, m: Sizes) {
+pub(crate) fn try_all_asked(name: &[u8], first: u32, times: u32, m: Sizes) {
     let mut seed = first;
     let mut total = 0;
     for i in 0..times {
@@ -166,7 +166,7 @@ fn try_chain(start: u32, m: u16) -> u32 {
     )
 }
 
-pub fn try_chains(name: &[u8], times: u16) {
+pub(crate) fn try_chains(name: &[u8], times: u16) {
     let mut total = 0;
     for m in 0..times {
         total = try_chain(total, m);

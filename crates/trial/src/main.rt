@@ -52,6 +52,8 @@ fn main() {
     worked::try_names();
     worked::try_lives();
     worked::try_waits();
+    worked::try_pairs();
+    worked::try_orders();
     edges::try_ranges();
     edges::try_extents();
     edges::try_trailers();

@@ -1,5 +1,6 @@
 // Recordings from a fixed seed: events are drawn and kept where the rules allow them, so that forks,
 // joins and waits that compete for signals occur; then some are damaged.
+use crate::bytes::fill_bytes;
 use crate::bytes::number;
 use crate::bytes::put_byte;
 use crate::bytes::put_double;
@@ -9,12 +10,12 @@ use crate::bytes::up_by;
 use crate::bytes::wide;
 
 // How large a recording may be: its preamble and events, and its counts.
-pub struct Shape {
-    pub preamble: u16,
-    pub events: u16,
-    pub tasks: u16,
-    pub semaphores: u16,
-    pub cells: u16,
+pub(crate) struct Shape {
+    pub(crate) preamble: u16,
+    pub(crate) events: u16,
+    pub(crate) tasks: u16,
+    pub(crate) semaphores: u16,
+    pub(crate) cells: u16,
 }
 
 struct Draft {
@@ -36,7 +37,7 @@ const SEEN: u16 = 192;
 const LATE: u16 = 256;
 
 // A number below n; 0 where n is 0.
-pub fn draw(seed: &mut u32, n: u32) -> u32 {
+pub(crate) fn draw(seed: &mut u32, n: u32) -> u32 {
     let x = (*seed % 2147483648) as u64;
     let y = (x * 1103515245 + 12345) % 2147483648;
     *seed = y as u32;
@@ -46,12 +47,12 @@ pub fn draw(seed: &mut u32, n: u32) -> u32 {
     (y / 65536) as u32 % n
 }
 
-pub fn draw_word(seed: &mut u32, n: u16) -> u16 {
+pub(crate) fn draw_word(seed: &mut u32, n: u16) -> u16 {
     (draw(seed, wide(n)) % 65536) as u16
 }
 
 // A number from low to low + n.
-pub fn draw_from(seed: &mut u32, low: u16, n: u16) -> u16 {
+pub(crate) fn draw_from(seed: &mut u32, low: u16, n: u16) -> u16 {
     let more = draw_word(seed, n) % 32768;
     low % 32768 + more
 }
@@ -135,7 +136,7 @@ fn one_less(x: u16) -> u16 {
 }
 
 // The place of record n after a preamble.
-pub fn place(preamble: u16, n: u16) -> u32 {
+pub(crate) fn place(preamble: u16, n: u16) -> u32 {
     preamble as u32 + n as u32 * 4
 }
 
@@ -173,8 +174,16 @@ fn grow_all(seed: &mut u32, s: Shape, life: &mut [u16], file: &mut [u8], tries: 
     n
 }
 
+// Marks the bytes before the first record, so that they differ from a record's.
+pub(crate) fn mark_preamble(file: &mut [u8], start: u32) {
+    let end = start as usize;
+    if end <= file.len() {
+        fill_bytes(&mut file[0..end], 90);
+    }
+}
+
 // The trailer at a place of the file.
-pub fn put_trailer(file: &mut [u8], i: u32, start: u32, n: u32, s: Shape, edition: u16) {
+pub(crate) fn put_trailer(file: &mut [u8], i: u32, start: u32, n: u32, s: Shape, edition: u16) {
     put_double(file, i, start);
     put_double(file, up_by(i, 4), n);
     put_word(file, up_by(i, 8), s.tasks);
@@ -184,7 +193,7 @@ pub fn put_trailer(file: &mut [u8], i: u32, start: u32, n: u32, s: Shape, editio
 }
 
 // A recording that reading accepts, of at most the shape's events; its length.
-pub fn make(seed: &mut u32, s: Shape, file: &mut [u8]) -> u32 {
+pub(crate) fn make(seed: &mut u32, s: Shape, file: &mut [u8]) -> u32 {
     let mut life = [0u16; 320];
     set_late(seed, &mut life, s.tasks);
     let tries = if s.events < 20000 {
@@ -192,6 +201,7 @@ pub fn make(seed: &mut u32, s: Shape, file: &mut [u8]) -> u32 {
     } else {
         60000
     };
+    mark_preamble(file, wide(s.preamble));
     let n = grow_all(seed, s, &mut life, file, tries);
     let end = place(s.preamble, n);
     put_trailer(file, end, wide(s.preamble), wide(n), s, 1);
@@ -199,7 +209,7 @@ pub fn make(seed: &mut u32, s: Shape, file: &mut [u8]) -> u32 {
 }
 
 // Another byte somewhere in the file or its trailer, another record, or another length; the length.
-pub fn damage(seed: &mut u32, s: Shape, file: &mut [u8], length: u32) -> u32 {
+pub(crate) fn damage(seed: &mut u32, s: Shape, file: &mut [u8], length: u32) -> u32 {
     let what = draw(seed, 4);
     let value = (draw(seed, 256) % 256) as u8;
     if what == 0 {

@@ -6,7 +6,7 @@ use crate::bytes::up_by;
 use crate::compare;
 use libc::STDOUT_FILENO;
 
-pub fn say(name: &[u8], count: u32) {
+pub(crate) fn say(name: &[u8], count: u32) {
     io::write_all(STDOUT_FILENO, name);
     io::write_all(STDOUT_FILENO, b" ");
     io::print_decimal(STDOUT_FILENO, count as u64);
@@ -20,7 +20,7 @@ fn say_bytes(s: &[u8]) {
 }
 
 // Counts a comparison, and shows the file where it failed.
-pub fn count(total: u32, agrees: bool, file: &[u8]) -> u32 {
+pub(crate) fn count(total: u32, agrees: bool, file: &[u8]) -> u32 {
     if !agrees {
         io::write_all(STDOUT_FILENO, b"differs ");
         say_bytes(file);
@@ -29,13 +29,13 @@ pub fn count(total: u32, agrees: bool, file: &[u8]) -> u32 {
     up(total)
 }
 
-pub fn refused_as(file: &[u8], number: u16, record: u16) -> bool {
+pub(crate) fn refused_as(file: &[u8], number: u16, record: u16) -> bool {
     let r = second::read(file);
     r.refusal == number && r.record == record
 }
 
 // Analysing with each size of lent memory.
-pub fn try_sizes(start: u32, file: &[u8], budget: u32) -> u32 {
+pub(crate) fn try_sizes(start: u32, file: &[u8], budget: u32) -> u32 {
     let mut total = start;
     for which in 0..6u32 {
         total = count(
@@ -47,7 +47,7 @@ pub fn try_sizes(start: u32, file: &[u8], budget: u32) -> u32 {
     total
 }
 
-pub fn try_writing(start: u32, file: &[u8]) -> u32 {
+pub(crate) fn try_writing(start: u32, file: &[u8]) -> u32 {
     let mut total = start;
     for which in 0..6u32 {
         total = count(total, compare::sized_writing_agrees(file, which), file);
@@ -68,7 +68,7 @@ fn try_questions_of(start: u32, file: &[u8], a: u32, most: u32, budget: u32, roo
 }
 
 // The question about all pairs of events, and about events past the last one.
-pub fn try_questions(start: u32, file: &[u8], budget: u32, room: usize) -> u32 {
+pub(crate) fn try_questions(start: u32, file: &[u8], budget: u32, room: usize) -> u32 {
     let most = up_by(second::read(file).events as u32, 2);
     let mut total = start;
     for a in 0..most {
@@ -77,6 +77,8 @@ pub fn try_questions(start: u32, file: &[u8], budget: u32, room: usize) -> u32 {
     total
 }
 
-pub fn try_reading(total: u32, file: &[u8]) -> u32 {
-    count(total, compare::reading_agrees(file), file)
+// Reading a file, and writing it again.
+pub(crate) fn try_reading(total: u32, file: &[u8]) -> u32 {
+    let read = count(total, compare::reading_agrees(file), file);
+    count(read, compare::rewriting_agrees(file), file)
 }

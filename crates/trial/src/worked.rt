@@ -68,6 +68,21 @@ fn try_whole(start: u32, file: &[u8]) -> u32 {
     try_reading(try_writing(asked, file), file)
 }
 
+// Puts a recording with these counts; its length.
+fn put_text(file: &mut [u8], tasks: u16, semaphores: u16, cells: u16, text: &[u8]) -> usize {
+    let n = events_in(text);
+    let s = Shape {
+        preamble: 0,
+        events: n,
+        tasks,
+        semaphores,
+        cells,
+    };
+    put_events(file, text, n);
+    make::put_trailer(file, make::place(0, n), 0, n as u32, s, 1);
+    n as usize * 4 + 16
+}
+
 // A recording with these counts, and the number and record of its refusal.
 fn try_text(
     start: u32,
@@ -78,18 +93,8 @@ fn try_text(
     record: u16,
     text: &[u8],
 ) -> u32 {
-    let n = events_in(text);
-    let s = Shape {
-        preamble: 0,
-        events: n,
-        tasks,
-        semaphores,
-        cells,
-    };
     let mut bytes = [0u8; 400];
-    put_events(&mut bytes, text, n);
-    make::put_trailer(&mut bytes, make::place(0, n), 0, n as u32, s, 1);
-    let length = n as usize * 4 + 16;
+    let length = put_text(&mut bytes, tasks, semaphores, cells, text);
     if 400 < length {
         return start;
     }
@@ -99,7 +104,7 @@ fn try_text(
 }
 
 // A to J of document 01.
-pub fn try_worked() {
+pub(crate) fn try_worked() {
     let mut total = 0;
     // A
     total = try_text(total, 2, 1, 1, 0, 0, b"0W0 0S0 1P0 1R0");
@@ -125,7 +130,7 @@ pub fn try_worked() {
 }
 
 // Kinds from 1 to 6, and names below their counts.
-pub fn try_names() {
+pub(crate) fn try_names() {
     let mut total = 0;
     // kind 0
     total = try_text(total, 1, 1, 1, 5, 0, b"0x0");
@@ -161,11 +166,13 @@ pub fn try_names() {
     total = try_text(total, 1, 0, 2, 6, 0, b"0W2");
     // no cell
     total = try_text(total, 1, 1, 0, 6, 0, b"0W0");
+    // a signal and a wait, no cell
+    total = try_text(total, 1, 1, 0, 0, 0, b"0S0 0P0");
     say(b"kinds and names", total);
 }
 
 // The first three rules.
-pub fn try_lives() {
+pub(crate) fn try_lives() {
     let mut total = 0;
     // a joined task goes on
     total = try_text(total, 2, 0, 1, 7, 3, b"0F1 1W0 0J1 1W0");
@@ -193,7 +200,7 @@ pub fn try_lives() {
 }
 
 // The wait rule, the first faulty record, and runs of several passes.
-pub fn try_waits() {
+pub(crate) fn try_waits() {
     let mut total = 0;
     // two waits for one signal
     total = try_text(total, 1, 1, 0, 8, 2, b"0S0 0P0 0P0");
@@ -216,4 +223,68 @@ pub fn try_waits() {
     // a fork after a write, two signals
     total = try_text(total, 3, 1, 1, 0, 0, b"0W0 0F1 1S0 2P0 1S0");
     say(b"waits", total);
+}
+
+// Which events conflict, and the order of the entries.
+pub(crate) fn try_pairs() {
+    let mut total = 0;
+    // a read before a write
+    total = try_text(total, 2, 0, 1, 0, 0, b"0R0 1W0");
+    // two reads
+    total = try_text(total, 2, 0, 1, 0, 0, b"0R0 1R0");
+    // one task
+    total = try_text(total, 1, 0, 1, 0, 0, b"0R0 0W0");
+    // two cells
+    total = try_text(total, 2, 0, 2, 0, 0, b"0W0 1W1");
+    // by cell, then lower, then higher event
+    total = try_text(total, 3, 0, 2, 0, 0, b"0W1 0W0 1W0 1W1 2R0 2R1");
+    // before a fork, between fork and join, after the join
+    total = try_text(total, 2, 0, 1, 0, 0, b"0R0 0F1 1W0 0R0 0J1 0R0");
+    say(b"pairs", total);
+}
+
+// With nothing lent: the refusals of a question about a and b, of analysing and of writing.
+fn try_bare(
+    start: u32,
+    text: &[u8],
+    a: usize,
+    b: usize,
+    asked: u16,
+    analysed: u16,
+    written: u16,
+) -> u32 {
+    let mut bytes = [0u8; 400];
+    let length = put_text(&mut bytes, 2, 1, 1, text);
+    if 400 < length || length < 16 {
+        return start;
+    }
+    let file = &bytes[0..length];
+    let records = &file[0..length - 16];
+    let question = count(start, compare::question_refused(file, a, b, asked), file);
+    let analysis = count(question, compare::analysis_refused(file, analysed), file);
+    count(
+        analysis,
+        compare::writing_refused(records, 2, 1, 1, written),
+        file,
+    )
+}
+
+// A faulty record comes before 11, 11 before 9, and a faulty record before 12.
+pub(crate) fn try_orders() {
+    let mut total = 0;
+    total = try_bare(total, b"0W0 1W0", 0, 1, 9, 9, 12);
+    // one event
+    total = try_bare(total, b"0W0 1W0", 1, 1, 11, 9, 12);
+    // no event 2
+    total = try_bare(total, b"0W0 1W0", 2, 0, 11, 9, 12);
+    total = try_bare(total, b"0W0 1W0", 0, 2, 11, 9, 12);
+    // events 0 and 1 but for higher bits
+    total = try_bare(total, b"0W0 1W0", 65536, 1, 11, 9, 12);
+    total = try_bare(total, b"0W0 1W0", 0, 4294967297, 11, 9, 12);
+    // kind, name, life, empty
+    total = try_bare(total, b"0W0 0y0", 0, 0, 5, 5, 5);
+    total = try_bare(total, b"0W0 0W1", 0, 0, 6, 6, 6);
+    total = try_bare(total, b"0W0 0F0", 0, 0, 7, 7, 7);
+    total = try_bare(total, b"0W0 0P0", 0, 0, 8, 8, 8);
+    say(b"orders", total);
 }
