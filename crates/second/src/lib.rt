@@ -255,16 +255,9 @@ pub fn ask(
         };
     }
     let n = r.events;
-    let answer = ask_events(
-        &events,
-        &links,
-        n,
-        a as u16,
-        b as u16,
-        budget,
-        safe,
-        recorded,
-    );
+    let x = a as u16;
+    let y = b as u16;
+    let answer = ask_events(&events, &links, n, x, y, budget, safe, recorded);
     Reply {
         refusal: 0,
         record: 0,

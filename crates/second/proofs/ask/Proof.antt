@@ -18,13 +18,6 @@ returns c = (
   λ _. search needs,
 )
 
--- an event's number fits
-cast-ask-events : tie.Need-cast-ask-events
-cast-ask-events c = omega (arith, c .before .before .before .before .question-fault .ensures .events (c .before .before .if1 .left) .0)
-
-cast-ask-events-2 : tie.Need-cast-ask-events-2
-cast-ask-events-2 c = omega (arith, c .before .before .before .before .question-fault .ensures .events (c .before .before .if1 .left) .1)
-
 -- answered
 returns-2 : tie.Need-returns-2
 returns-2 c =
@@ -47,10 +40,10 @@ ask-spec =
     (λ c κs. search needs)
     question-fault-requires
     returns
+    (λ c. omega (arith, c .before .before .question-fault .ensures .events (c .if1 .left) .0))
+    (λ c. omega (arith, c .before .before .question-fault .ensures .events (c .if1 .left) .1))
     (λ c. search needs)
     (λ c. search needs)
-    cast-ask-events
-    cast-ask-events-2
     (λ c κs. search needs)
     (λ c. search needs)
     (λ c. search needs)
