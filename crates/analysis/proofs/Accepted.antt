@@ -9,7 +9,7 @@ use Rattle.model.specs.declared.Counts.{Counts}
 use Rattle.model.specs.declared.Trailer.{Trailer}
 use Rattle.model.specs.declared.Check.{Check}
 use Rattle.model.specs.declared.Reading.{Reading}
-use Rattle.model.specs.Recording.{Recording, size, kindOf, objectOf, classOf, Accepted}
+use Rattle.model.specs.Recording.{Recording, size, kindOf, objectOf, classOf, Accepted, wait}
 use Rattle.model.specs.File.{trailerOf, recordBytes, recordingBy, recordingOf}
 use Rattle.model.specs.Reading.{fileCheck, readingOf}
 use Rattle.model.proofs.Accept.{task-inside, object-inside}
@@ -18,7 +18,7 @@ use Rattle.recording.proofs.Files.{accepted-is, within}
 use Rattle.analysis.specs.Lent.{Ready}
 
 -- a wait names a semaphore
-semaphore-inside : (E : Recording) → Accepted E → (e : ℕ) → e < size E → kindOf E e ≡ 2 → objectOf E e < E .counts .semaphores
+semaphore-inside : (E : Recording) → Accepted E → (e : ℕ) → e < size E → kindOf E e ≡ wait → objectOf E e < E .counts .semaphores
 unfolding classOf
 semaphore-inside E acc e l w = rw w at (object-inside E acc e l)
 

@@ -14,18 +14,18 @@ use Rattle.events.specs.Chains.{among, Chained as ChainedOf}
 use Rattle.events.proofs.Chains.{chained-by}
 use Rattle.pairs.specs.Chains.{accessOf, Nearest, Chained, InChain}
 use Rattle.pairs.proofs.Each.{each-skip}
-use Rattle.model.specs.Recording.{eventIn}
+use Rattle.model.specs.Recording.{eventIn, read, write}
 
--- the kinds 5 to 6 are the accesses
-two-kinds : (k : ℕ) → (leb 5 k && leb k 6) ≡ (eqb k 5 || eqb k 6)
+-- the kinds from read to write are the accesses
+two-kinds : (k : ℕ) → (leb read k && leb k write) ≡ (eqb k read || eqb k write)
 two-kinds k =
-    cases (eqb k 5) (λ t. let q : k ≡ 5 = omega tests in rw q)
-    (λ t. cases (eqb k 6) (λ u. let q : k ≡ 6 = omega tests in rw q)
-    (λ u. rw (t, u) (fails (leb 5 k && leb k 6) (λ w. let a = first (leb 5 k) (leb k 6) w in let b = second (leb 5 k) (leb k 6) w in omega tests))))
+    cases (eqb k read) (λ t. let q : k ≡ read = omega tests in rw q)
+    (λ t. cases (eqb k write) (λ u. let q : k ≡ write = omega tests in rw q)
+    (λ u. rw (t, u) (fails (leb read k && leb k write) (λ w. let a = first (leb read k) (leb k write) w in let b = second (leb read k) (leb k write) w in omega tests))))
 
-pub gathered : (s : List ℕ) (n k : ℕ) (chain : List ℕ) → n ≡ length (eventsOf s) → ChainedOf (among s 5 6) n k 0 chain → Chained s k chain
+pub gathered : (s : List ℕ) (n k : ℕ) (chain : List ℕ) → n ≡ length (eventsOf s) → ChainedOf (among s read write) n k 0 chain → Chained s k chain
 gathered s n k chain q c =
-    rw q at (chained-by (among s 5 6) (accessOf s) n k 0 chain (λ x i. ap (λ (b : Bool). b && eqb (eventIn (eventsOf s) i .object) x) (two-kinds (eventIn (eventsOf s) i .kind))) c)
+    rw q at (chained-by (among s read write) (accessOf s) n k 0 chain (λ x i. ap (λ (b : Bool). b && eqb (eventIn (eventsOf s) i .object) x) (two-kinds (eventIn (eventsOf s) i .kind))) c)
 
 -- an access of a cell below k stands in the chain of its cell
 pub in-chain : (s : List ℕ) (k x a : ℕ) → a < length (eventsOf s) → x < k → accessOf s x a ≡ true → InChain s k a

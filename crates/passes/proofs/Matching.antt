@@ -19,7 +19,7 @@ use Rattle.events.proofs.Laws.{tally-next}
 use Rattle.events.proofs.Chains.{chained-by}
 use Rattle.passes.specs.Matching.{signalAt, waitAt, AtHand, Matching}
 use Rattle.passes.proofs.Searches.{tally-start, nth-here, nth-none}
-use Rattle.model.specs.Recording.{eventIn}
+use Rattle.model.specs.Recording.{eventIn, wait, signal}
 
 -- a tally does not rise over numbers that fail
 tally-skip : (p : ℕ → Bool) (m b : ℕ) → m ≤ b → ((i : ℕ) → m ≤ i → i < b → p i ≡ false) → tally p b ≡ tally p m
@@ -31,15 +31,15 @@ tally-skip p m (suc b) h e = elim (decLe m b) [
 ]
 
 -- the kinds 1 to 1 are the signals
-one-kind : (k : ℕ) → (leb 1 k && leb k 1) ≡ eqb k 1
+one-kind : (k : ℕ) → (leb signal k && leb k signal) ≡ eqb k signal
 one-kind k =
-    cases (eqb k 1) (λ t. let q : k ≡ 1 = omega tests in rw (q))
-    (λ t. rw t (fails (leb 1 k && leb k 1) (λ u. let a = first (leb 1 k) (leb k 1) u in let b = second (leb 1 k) (leb k 1) u in omega tests)))
+    cases (eqb k signal) (λ t. let q : k ≡ signal = omega tests in rw (q))
+    (λ t. rw t (fails (leb signal k && leb k signal) (λ u. let a = first (leb signal k) (leb k signal) u in let b = second (leb signal k) (leb k signal) u in omega tests)))
 
 -- before the first event
-pub start : (s : List ℕ) (n : ℕ) (chain : List ℕ) → n ≡ length (eventsOf s) → Chained (among s 1 1) n 64 0 chain → Matching s 0 chain
+pub start : (s : List ℕ) (n : ℕ) (chain : List ℕ) → n ≡ length (eventsOf s) → Chained (among s signal signal) n 64 0 chain → Matching s 0 chain
 start s n chain q d =
-    let c : Chained (signalAt s) (length (eventsOf s)) 64 0 chain = rw q at (chained-by (among s 1 1) (signalAt s) n 64 0 chain (λ x i. ap (λ (b : Bool). b && eqb (eventIn (eventsOf s) i .object) x) (one-kind (eventIn (eventsOf s) i .kind))) d) in
+    let c : Chained (signalAt s) (length (eventsOf s)) 64 0 chain = rw q at (chained-by (among s signal signal) (signalAt s) n 64 0 chain (λ x i. ap (λ (b : Bool). b && eqb (eventIn (eventsOf s) i .object) x) (one-kind (eventIn (eventsOf s) i .kind))) d) in
     record {
       wide = c .wide;
       heads = λ x l.
@@ -66,8 +66,8 @@ module _ (s : List ℕ) (e : ℕ) (chain : List ℕ) (m : Matching s e chain) wh
     only : (x : ℕ) → (x ≡ y → ⊥) → waitAt s x e ≡ false
     only x d =
         let v = eventIn (eventsOf s) e in
-        let o = eqb-true (v .object) y (second (eqb (v .kind) 2) (eqb (v .object) y) t) in
-        fails (waitAt s x e) (λ u. let z = eqb-true (v .object) x (second (eqb (v .kind) 2) (eqb (v .object) x) u) in d (omega arith))
+        let o = eqb-true (v .object) y (second (eqb (v .kind) wait) (eqb (v .object) y) t) in
+        fails (waitAt s x e) (λ u. let z = eqb-true (v .object) x (second (eqb (v .kind) wait) (eqb (v .object) x) u) in d (omega arith))
 
     here : tally (waitAt s y) (e + 1) ≡ tally (waitAt s y) e + 1
     here = omega (arith, tally-next (waitAt s y) e, ap bit t)

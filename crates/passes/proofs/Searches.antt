@@ -7,7 +7,7 @@ use native.Mathlib.Omega.{arith}
 use Rattle.model.specs.declared.Event.{Event}
 use Rattle.model.specs.declared.Found.{Found}
 use Rattle.model.specs.Numbers.{sum, tally, picked, lastOf, nth}
-use Rattle.model.specs.Recording.{Recording, kindOf, objectOf}
+use Rattle.model.specs.Recording.{Recording, kindOf, objectOf, wait}
 use Rattle.model.specs.Passes.{signalsOn}
 use Rattle.model.specs.Recorded.{waitsBefore, matched}
 use Rattle.model.proofs.Tests.{eq-eqb, ne-eqb}
@@ -43,10 +43,10 @@ unfolding sum
 tally-start p = refl
 
 module _ (E : Recording) (e : ℕ) where
-  pub matched-wait : kindOf E e ≡ 2 → nth (signalsOn (E .events) (objectOf E e)) (waitsBefore (E .events) e) ≡ matched (E .events) e
+  pub matched-wait : kindOf E e ≡ wait → nth (signalsOn (E .events) (objectOf E e)) (waitsBefore (E .events) e) ≡ matched (E .events) e
   unfolding matched
-  matched-wait q = rw (eq-eqb (kindOf E e) 2 q)
+  matched-wait q = rw (eq-eqb (kindOf E e) wait q)
 
-  pub matched-other : (kindOf E e ≡ 2 → ⊥) → Found.Nothing ≡ matched (E .events) e
+  pub matched-other : (kindOf E e ≡ wait → ⊥) → Found.Nothing ≡ matched (E .events) e
   unfolding matched
-  matched-other d = rw (ne-eqb (kindOf E e) 2 d)
+  matched-other d = rw (ne-eqb (kindOf E e) wait d)

@@ -9,7 +9,7 @@ use lib.ListN.{length, getD, set}
 use Rattle.model.specs.declared.Counts.{Counts}
 use Rattle.model.specs.declared.Found.{Found}
 use Rattle.model.specs.Numbers.{found, largest}
-use Rattle.model.specs.Recording.{Recording, size, tasks, kindOf, objectOf}
+use Rattle.model.specs.Recording.{Recording, size, tasks, kindOf, objectOf, join}
 use Rattle.model.specs.Vectors.{Vectors, number}
 use Rattle.model.specs.Passes.{forkOf, lastEvent, beforeOrFork, joinSources, sources, gathered, stepOne}
 use Rattle.model.specs.Recorded.{matched, causes}
@@ -67,8 +67,8 @@ taken-then c {n} X e s h from more =
     let d = eqb-false a e b in
     taken-other c Y e r h more a t d ∙ taken-other c X e s h from a t d ∙ sym (taken-other c X e s h (from ++ more) a t d))
   where
-    join : (x y z : ℕ) → max (max x y) z ≡ max x (max y z)
-    join x y z = omega arith
+    regroup : (x y z : ℕ) → max (max x y) z ≡ max x (max y z)
+    regroup x y z = omega arith
 
     own : (t : ℕ) → t < c .tasks → number (taken c (taken c X from e) more e) e t ≡ number (taken c X (from ++ more) e) e t
     own t k =
@@ -84,7 +84,7 @@ taken-then c {n} X e s h from more =
         taken-same c Y e r h more t k
         ∙ w
         ∙ ap (λ (y : ℕ). max y (largest (λ a. number X a t) more)) u
-        ∙ join (number X e t) (largest (λ a. number X a t) from) (largest (λ a. number X a t) more)
+        ∙ regroup (number X e t) (largest (λ a. number X a t) from) (largest (λ a. number X a t) more)
         ∙ ap (max (number X e t)) (sym z)
         ∙ sym (taken-same c X e s h (from ++ more) t k)
 
@@ -122,28 +122,28 @@ gathered-taken E X from e = refl
 -- step 1: the event before or the fork, then what a join adds
 pub step-one : (E : Recording) (X Y Z : Vectors) (e : ℕ) (f : Found) → Shaped (size E) (tasks E) X → e < size E
     → f ≡ beforeOrFork (E .events) e → Y ≡ taken (E .counts) X (found f) e
-    → Z ≡ taken (E .counts) Y (joinSources (E .events) e (eqb (kindOf E e) 4)) e → Z ≡ stepOne E X e
+    → Z ≡ taken (E .counts) Y (joinSources (E .events) e (eqb (kindOf E e) join)) e → Z ≡ stepOne E X e
 unfolding stepOne sources
 step-one E X Y Z e f s h p q r =
     r
-    ∙ ap (λ (W : Vectors). taken (E .counts) W (joinSources (E .events) e (eqb (kindOf E e) 4)) e)
+    ∙ ap (λ (W : Vectors). taken (E .counts) W (joinSources (E .events) e (eqb (kindOf E e) join)) e)
     (q ∙ ap (λ (f : Found). taken (E .counts) X (found f) e) p)
-    ∙ taken-then (E .counts) X e s h (found (beforeOrFork (E .events) e)) (joinSources (E .events) e (eqb (kindOf E e) 4))
-    ∙ sym (gathered-taken E X (found (beforeOrFork (E .events) e) ++ joinSources (E .events) e (eqb (kindOf E e) 4)) e)
+    ∙ taken-then (E .counts) X e s h (found (beforeOrFork (E .events) e)) (joinSources (E .events) e (eqb (kindOf E e) join))
+    ∙ sym (gathered-taken E X (found (beforeOrFork (E .events) e) ++ joinSources (E .events) e (eqb (kindOf E e) join)) e)
 
 -- what a join adds: the fork of its task, then the last event of it
-pub join-other : (E : Recording) (X : Vectors) (e : ℕ) → Shaped (size E) (tasks E) X → e < size E → (kindOf E e ≡ 4 → ⊥)
-    → X ≡ taken (E .counts) X (joinSources (E .events) e (eqb (kindOf E e) 4)) e
-join-other E X e s h d = rw (ne-eqb (kindOf E e) 4 d) (sym (taken-none (E .counts) X e s h))
+pub join-other : (E : Recording) (X : Vectors) (e : ℕ) → Shaped (size E) (tasks E) X → e < size E → (kindOf E e ≡ join → ⊥)
+    → X ≡ taken (E .counts) X (joinSources (E .events) e (eqb (kindOf E e) join)) e
+join-other E X e s h d = rw (ne-eqb (kindOf E e) join d) (sym (taken-none (E .counts) X e s h))
 
 pub join-taken : (E : Recording) (l k j : List ℕ) (e : ℕ) (f g : Found) → length l ≡ size E * tasks E → length k ≡ size E * tasks E → e < size E
-    → kindOf E e ≡ 4 → f ≡ forkOf (E .events) (objectOf E e) → g ≡ lastEvent (E .events) (objectOf E e)
+    → kindOf E e ≡ join → f ≡ forkOf (E .events) (objectOf E e) → g ≡ lastEvent (E .events) (objectOf E e)
     → k ≡ raisedFound (tasks E) l e f → j ≡ raisedFound (tasks E) k e g
-    → chunks (size E) (tasks E) j ≡ taken (E .counts) (chunks (size E) (tasks E) l) (joinSources (E .events) e (eqb (kindOf E e) 4)) e
+    → chunks (size E) (tasks E) j ≡ taken (E .counts) (chunks (size E) (tasks E) l) (joinSources (E .events) e (eqb (kindOf E e) join)) e
 join-taken E l k j e f g p q h d t u r z =
     let x : chunks (size E) (tasks E) k ≡ taken (E .counts) (chunks (size E) (tasks E) l) (found f) e =
     ap (chunks (size E) (tasks E)) r ∙ taken-found (E .counts) (size E) l e f p h in
-    rw (eq-eqb (kindOf E e) 4 d, ← t, ← u) (ap (chunks (size E) (tasks E)) z ∙ found-then (E .counts) (size E) l k e (found f) g p q h x)
+    rw (eq-eqb (kindOf E e) join d, ← t, ← u) (ap (chunks (size E) (tasks E)) z ∙ found-then (E .counts) (size E) l k e (found f) g p q h x)
 
 -- the recorded vector: step 1, then the matched signal
 pub record-event : (E : Recording) (X Y Z : Vectors) (e : ℕ) → Shaped (size E) (tasks E) X → e < size E

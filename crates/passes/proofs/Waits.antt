@@ -8,7 +8,7 @@ use native.Mathlib.Numerals.{add-one}
 use lib.ListN.{length, getD, set, drop}
 use lib.Seq.{set-at, set-set, drop-cons}
 use Rattle.model.specs.Numbers.{tally, filter, each, picked, kthLeast}
-use Rattle.model.specs.Recording.{Recording, size, tasks, event, kindOf, objectOf, isSignal, isWait}
+use Rattle.model.specs.Recording.{Recording, size, tasks, event, kindOf, objectOf, isSignal, isWait, wait}
 use Rattle.model.specs.Vectors.{Vectors, number, ordered}
 use Rattle.model.specs.Passes.{signalsOn, waitsOn, kOf, needed, candidates, served, stepOne, raised}
 use Rattle.model.proofs.Tests.{cases, eq-eqb, ne-eqb}
@@ -78,16 +78,16 @@ module _ (E : Recording) (X : Vectors) (e : ℕ) where
   k-tally s = ap suc (count-picked (λ a. isWait s (event E a)) (λ w. ordered (E .events) X w e) (size E))
 
   -- a wait, and any other event
-  pub wait-raised : kindOf E e ≡ 2 → waited E X e (objectOf E e) ≡ stepTwo E X e
+  pub wait-raised : kindOf E e ≡ wait → waited E X e (objectOf E e) ≡ stepTwo E X e
   unfolding waited stepTwo raisedTo served needed
-  wait-raised q = rw (candidates-on, eq-eqb (kindOf E e) 2 q)
+  wait-raised q = rw (candidates-on, eq-eqb (kindOf E e) wait q)
 
-  pub other-kept : Shaped (size E) (tasks E) X → e < size E → (kindOf E e ≡ 2 → ⊥) → X ≡ stepTwo E X e
+  pub other-kept : Shaped (size E) (tasks E) X → e < size E → (kindOf E e ≡ wait → ⊥) → X ≡ stepTwo E X e
   unfolding stepTwo served needed
   other-kept s h d =
       sym (raisedTo-none e _ s h λ t k.
       let z = kth-zero (map (λ s. number X s t) (candidates E X e)) in
-      let q = ne-eqb (kindOf E e) 2 d in
+      let q = ne-eqb (kindOf E e) wait d in
       rw (q, z) zero-le)
 
 -- the candidates' numbers in the flat list

@@ -4,9 +4,9 @@ use mathlib.Core.Path.{_≡_, sym, ap, _∙_}
 use Prim.Native.Nat.{_/_}
 use native.Mathlib.Omega.{arith}
 use borrow.Author.Needs.{needs}
-use lib.ListN.{length, getD}
+use lib.ListN.{length}
 use Rattle.model.specs.declared.Event.{Event}
-use Rattle.model.specs.Recording.{size, isOn, ofTask, noEvent}
+use Rattle.model.specs.Recording.{size, eventIn, isFork, ofTask}
 use Rattle.model.specs.File.{eventsOf, recordingBy}
 use Rattle.vectors.proofs.Chunks.{next-row, chunks-shaped}
 use Rattle.vectors.proofs.Rising.{rose-none, rose-then}
@@ -53,8 +53,8 @@ returns-2 c =
     let x = c .before .before .before .before .before .before .before .raise-found in
     let y = c .before .before .raise-found2 in
     let w = c .before .before .before .before .before .before .before .before .before .before .before .before .before .event-at .ensures in
-    let fork = searched (λ v a. isOn 3 (v .object) (getD l a noEvent)) _ _ _ (size E) (c .before .before .before .before .before .before .before .before .before .last-on .result) (c .before .before .before .before .before .before .before .before .before .last-on .ensures) w n in
-    let last = searched (λ v a. ofTask (v .object) (getD l a noEvent)) _ _ _ (size E) (c .before .before .before .before .task-before .result) (c .before .before .before .before .task-before .ensures) w n in (
+    let fork = searched (λ v a. isFork (v .object) (eventIn l a)) _ _ _ (size E) (c .before .before .before .before .before .before .before .before .before .last-on .result) (c .before .before .before .before .before .before .before .before .before .last-on .ensures) w n in
+    let last = searched (λ v a. ofTask (v .object) (eventIn l a)) _ _ _ (size E) (c .before .before .before .before .task-before .result) (c .before .before .before .before .task-before .ensures) w n in (
       join-taken E (s .args .v .now) (x .last .0) (y .last .0) (s .args .e) (c .before .before .before .before .before .before .before .before .before .last-on .result) (c .before .before .before .before .task-before .result) (s .pre .1) (x .kept .0 ∙ s .pre .1) (s .pre .2)
           (sym (ap (λ (v : Event). v .kind) w) ∙ c .before .before .before .before .before .before .before .before .before .before .before .if1 .left) fork last (x .ensures .0) (y .ensures .0),
       rose-then (x .ensures .1) (y .ensures .1),

@@ -9,7 +9,7 @@ use lib.Seq.{set-getD}
 use Rattle.model.specs.declared.Event.{Event}
 use Rattle.model.specs.declared.Found.{Found}
 use Rattle.model.specs.Numbers.{tally, nth}
-use Rattle.model.specs.Recording.{Recording, isWait, event}
+use Rattle.model.specs.Recording.{Recording, isWait, event, wait}
 use Rattle.model.specs.File.{eventsOf, recordingBy}
 use Rattle.model.specs.Passes.{signalsOn}
 use Rattle.model.specs.Recorded.{matched}
@@ -21,8 +21,8 @@ use Rattle.passes.proofs.Matching.{next-other, next-wait, taken-next, n
 use Rattle.passes.proofs.take_signal.Statement.{statement}
 use Rattle.passes.proofs.take_signal.Tie as tie
 
-no-wait : (x : ℕ) (v : Event) → (v .kind ≡ 2 → ⊥) → isWait x v ≡ false
-no-wait x v d = rw (ne-eqb (v .kind) 2 d)
+no-wait : (x : ℕ) (v : Event) → (v .kind ≡ wait → ⊥) → isWait x v ≡ false
+no-wait x v d = rw (ne-eqb (v .kind) wait d)
 
 returns : tie.Need-returns
 returns c =
@@ -50,7 +50,7 @@ module _ (c : tie.Else1) where
   abbrev object : ℕ
   object = v .object
 
-  kind : event E (s .args .e) .kind ≡ 2
+  kind : event E (s .args .e) .kind ≡ wait
   kind = sym (ap (λ (w : Event). w .kind) (t .event-at .ensures)) ∙ c .if1 .left
 
   same : object ≡ event E (s .args .e) .object
@@ -60,7 +60,7 @@ module _ (c : tie.Else1) where
   small = omega (arith, same, s .pre .0 .waits (s .args .e) (s .pre .1) kind)
 
   waiting : waitAt (s .args .records .now) object (s .args .e) ≡ true
-  waiting = sym (ap (isWait object) (t .event-at .ensures)) ∙ both (eq-eqb (v .kind) 2 (c .if1 .left)) (eq-eqb object object refl)
+  waiting = sym (ap (isWait object) (t .event-at .ensures)) ∙ both (eq-eqb (v .kind) wait (c .if1 .left)) (eq-eqb object object refl)
 
   hand : AtHand (s .args .records .now) object (tally (waitAt (s .args .records .now) object) (s .args .e)) (getD (s .args .chain .now) (head object) 0)
   hand = s .pre .2 .heads object small
