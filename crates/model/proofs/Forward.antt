@@ -10,7 +10,7 @@ use native.Mathlib.Omega.{arith}
 use lib.Dec.{leb, ltb, eqb}
 use Rattle.model.specs.declared.Event.{Event}
 use Rattle.model.specs.Numbers.{bit, tally, count, picked}
-use Rattle.model.specs.Recording.{event, ofTask, isSignal, isWait, isFork, isJoin, notJoined, forkKept, joinKept, waitKept, lifeKept, obeys, Accepted, Recording, size, taskOf, kindOf, objectOf}
+use Rattle.model.specs.Recording.{event, ofTask, isSignal, isWait, isFork, isJoin, notJoined, forkKept, joinKept, waitKept, lifeKept, obeys, Accepted, Recording, size, taskOf, kindOf, objectOf, fork, join, wait}
 use Rattle.model.specs.Orders.{place, Precedes, occurrences, Admissible}
 use Rattle.model.specs.Vectors.{Vectors}
 use Rattle.model.specs.Passes.{previous, sources}
@@ -104,7 +104,7 @@ module _ (E : Recording) (acc : Accepted E) (x : ℕ) (inside : x < size E) wher
 
   fork-kept : (e : ℕ) → e < size E → forkKept (earlier E o e) (event E e) ≡ true
   fork-kept e l =
-      implies-by (eqb (kindOf E e) 3) _
+      implies-by (eqb (kindOf E e) fork) _
       (λ t.
       let own = both t (eq-eqb (objectOf E e) (objectOf E e) refl) in
       both
@@ -115,13 +115,13 @@ module _ (E : Recording) (acc : Accepted E) (x : ℕ) (inside : x < size E) wher
 
   join-kept : (e : ℕ) → e < size E → joinKept (earlier E o e) (event E e) ≡ true
   join-kept e l =
-      implies-by (eqb (kindOf E e) 4) _
+      implies-by (eqb (kindOf E e) join) _
       (λ t.
       let own = both t (eq-eqb (objectOf E e) (objectOf E e) refl) in
       both (both (to-not (ne-eqb _ _ (join-other E f₀ file e l t))) (forked t))
       (none-before (isJoin (objectOf E e)) e (λ a k s p. let q = ap (place o) (one-join E f₀ file (objectOf E e) a e k l s own) in omega arith)))
     where
-      forked : eqb (kindOf E e) 4 ≡ true → ltb 0 (count (isFork (objectOf E e)) (earlier E o e)) ≡ true
+      forked : eqb (kindOf E e) join ≡ true → ltb 0 (count (isFork (objectOf E e)) (earlier E o e)) ≡ true
       forked t =
           let (f, k, q, p) = join-forked E f₀ file e l t in
           let still = keep f e (file-lower E f e k l p) l (brings e f l (has-join-fork E e f t (fork-found E f₀ file (objectOf E e) f k q))) in
@@ -129,7 +129,7 @@ module _ (E : Recording) (acc : Accepted E) (x : ℕ) (inside : x < size E) wher
           let s = count-earlier E o once (isFork (objectOf E e)) e in omega tests
 
   -- the waits at or before a wait have each a signal of their own before it
-  wait-served : (e : ℕ) → e < size E → eqb (kindOf E e) 2 ≡ true
+  wait-served : (e : ℕ) → e < size E → eqb (kindOf E e) wait ≡ true
       → tally (λ a. isWait (objectOf E e) (event E a) && sooner o a e) (size E)
       < tally (λ a. isSignal (objectOf E e) (event E a) && sooner o a e) (size E)
   wait-served e l t =
@@ -168,7 +168,7 @@ module _ (E : Recording) (acc : Accepted E) (x : ℕ) (inside : x < size E) wher
   wait-kept : (e : ℕ) → e < size E → waitKept (earlier E o e) (event E e) ≡ true
   unfolding waitKept
   wait-kept e l =
-      implies-by (eqb (kindOf E e) 2) _
+      implies-by (eqb (kindOf E e) wait) _
       (λ t.
       let h = wait-served e l t in
       let w = count-earlier E o once (isWait (objectOf E e)) e in

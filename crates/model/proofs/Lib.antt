@@ -24,5 +24,7 @@ pub mod Promise
 pub mod Questions
 pub mod Uncut
 pub mod RoundTrip
+pub mod Computing
 pub mod Starred
 pub mod Instance
+pub mod Rows

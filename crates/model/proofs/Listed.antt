@@ -11,7 +11,7 @@ use lib.Dec.{ltb, eqb}
 use Rattle.model.specs.declared.Event.{Event}
 use Rattle.model.specs.declared.Counts.{Counts}
 use Rattle.model.specs.Numbers.{each}
-use Rattle.model.specs.Recording.{Recording, size, cells, event, taskOf, objectOf, classOf, namesOf}
+use Rattle.model.specs.Recording.{Recording, size, cells, event, taskOf, objectOf, classOf, namesOf, read, write}
 use Rattle.model.specs.Vectors.{Vectors, number, position, ordered, unordered}
 use Rattle.model.specs.Pairs.{isAccess, isWrite, conflict, racePair, Entry, entry, entriesOf, cellEntries, entries}
 use Rattle.model.proofs.Tests.{cases, clash, fails, of-not, to-not, both, first, second, all-three, either, last-or-lower, le-leb, leb-true, ltb-true, eqb-true, eqb-false, eq-eqb, ne-eqb}
@@ -128,8 +128,8 @@ unordered-turned l X a b = and-comm (not (ordered l X a b)) (not (ordered l X b 
 -- a conflict is on a cell
 pub conflict-cell : (c : Counts) (v w : Event) → conflict v w ≡ true → namesOf c (classOf (v .kind)) ≡ c .cells
 unfolding conflict classOf
-conflict-cell c v w h = go (either (eqb (v .kind) 5) (isWrite v) (all-three (isAccess v) (isAccess w) _ (first _ _ (first _ _ h)) .0))
+conflict-cell c v w h = go (either (eqb (v .kind) read) (isWrite v) (all-three (isAccess v) (isAccess w) _ (first _ _ (first _ _ h)) .0))
   where
-    go : (eqb (v .kind) 5 ≡ true) ⊎ (isWrite v ≡ true) → namesOf c (classOf (v .kind)) ≡ c .cells
-    go (inl t) = ap (λ (k : ℕ). namesOf c (classOf k)) (eqb-true (v .kind) 5 t)
-    go (inr t) = ap (λ (k : ℕ). namesOf c (classOf k)) (eqb-true (v .kind) 6 t)
+    go : (eqb (v .kind) read ≡ true) ⊎ (isWrite v ≡ true) → namesOf c (classOf (v .kind)) ≡ c .cells
+    go (inl t) = ap (λ (k : ℕ). namesOf c (classOf k)) (eqb-true (v .kind) read t)
+    go (inr t) = ap (λ (k : ℕ). namesOf c (classOf k)) (eqb-true (v .kind) write t)

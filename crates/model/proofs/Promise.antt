@@ -14,7 +14,7 @@ use Rattle.model.specs.Vectors.{ordered, unordered}
 use Rattle.model.specs.Passes.{Run, needed, candidates, stepOne, passTo, run}
 use Rattle.model.specs.Recorded.{recorded}
 use Rattle.model.specs.Pairs.{Entry, conflict, racePair, mark, entries, listed, OnList}
-use Rattle.model.specs.Promise.{Promise, Promised}
+use Rattle.model.specs.Promise.{Promise, Promised, EnoughCandidates}
 use Rattle.model.proofs.Tests.{cases, of-not, to-not, both, first, second, and-false, lt-ltb, ne-eqb}
 use Rattle.model.proofs.Accept.{object-inside}
 use Rattle.model.proofs.FileOrder.{fileOrder, file-admissible, file-lower}
@@ -35,10 +35,9 @@ module _ (E : Recording) (acc : Accepted E) where
   pub ordered-always : (b a e : ℕ) → a < size E → e < size E → ordered (E .events) (run E b .vectors) a e ≡ true → Always E a e
   ordered-always b a e k l t o adm = ordered-precedes E o adm (run E b .vectors) (run-safe E o adm b) a e k l t
 
-  -- fewer than k candidates never happens: not in any pass of any run
-  pub enough-candidates : (b n : ℕ) → n < size E
+  enough-at : (b n : ℕ) → n < size E
       → needed E (stepOne E (passTo E (run E b .vectors) n) n) n ≤ length (candidates E (stepOne E (passTo E (run E b .vectors) n) n) n)
-  enough-candidates b n l =
+  enough-at b n l =
       let X = passTo E (run E b .vectors) n in
       let rows = run-shaped E b .rows in
       let safe = passTo-safe E (fileOrder E) file (run E b .vectors) n (omega arith) rows (run-safe E (fileOrder E) file b) in
@@ -156,3 +155,6 @@ recording-promise E acc b =
 
 pub promise : Promised
 promise f h acc b = recording-promise _ (accepted-recording f h acc) b
+
+pub enough-candidates : EnoughCandidates
+enough-candidates f h acc b e l = enough-at _ (accepted-recording f h acc) b e l

@@ -12,7 +12,7 @@ use native.Mathlib.Omega.{arith}
 use lib.Dec.{leb, ltb, eqb}
 use lib.ListN.{getD, set, List·getD-eq-default}
 use Rattle.model.specs.Numbers.{tally, largest, found}
-use Rattle.model.specs.Recording.{event, ofTask, isSignal, isWait, Accepted, Recording, size, taskOf, kindOf, objectOf, tasks}
+use Rattle.model.specs.Recording.{event, ofTask, isSignal, isWait, Accepted, Recording, size, taskOf, kindOf, objectOf, tasks, wait}
 use Rattle.model.specs.Orders.{Admissible}
 use Rattle.model.specs.Vectors.{position, Vectors, number, start}
 use Rattle.model.specs.Passes.{sources, gathered, signalsOn}
@@ -37,11 +37,11 @@ pub record Match (E : Recording) (e s : ℕ) : Type 0 where
   pub signal : isSignal (objectOf E e) (event E s) ≡ true
   pub rank : tally (λ b. isSignal (objectOf E e) (event E b)) s ≡ tally (λ w. isWait (objectOf E e) (event E w)) e
 
-pub matched-wait : (E : Recording) (e s : ℕ) → matched (E .events) e ≡ Found.At s → (eqb (kindOf E e) 2 ≡ true) × Match E e s
+pub matched-wait : (E : Recording) (e s : ℕ) → matched (E .events) e ≡ Found.At s → (eqb (kindOf E e) wait ≡ true) × Match E e s
 unfolding matched signalsOn
-matched-wait E e s h = go (eqb (kindOf E e) 2) refl h
+matched-wait E e s h = go (eqb (kindOf E e) wait) refl h
   where
-    go : (b : Bool) → eqb (kindOf E e) 2 ≡ b → matchWhere (E .events) e b ≡ Found.At s → (eqb (kindOf E e) 2 ≡ true) × Match E e s
+    go : (b : Bool) → eqb (kindOf E e) wait ≡ b → matchWhere (E .events) e b ≡ Found.At s → (eqb (kindOf E e) wait ≡ true) × Match E e s
     go true q h =
         let (inside, signal, rank) = nth-of (λ b. isSignal (objectOf E e) (event E b)) (size E) (waitsBefore (E .events) e) s h in
         (q, record { inside = inside; signal = signal; rank = rank })
@@ -51,7 +51,7 @@ module _ (E : Recording) (acc : Accepted E) where
   file : Admissible E (fileOrder E)
   file = file-admissible E acc
 
-  wait-before : (e : ℕ) → e < size E → eqb (kindOf E e) 2 ≡ true
+  wait-before : (e : ℕ) → e < size E → eqb (kindOf E e) wait ≡ true
       → tally (λ w. isWait (objectOf E e) (event E w)) e < tally (λ b. isSignal (objectOf E e) (event E b)) e
   wait-before e l q =
       let a = wait-served E (fileOrder E) file e l q in
@@ -73,7 +73,7 @@ module _ (E : Recording) (acc : Accepted E) where
       let g = tally-grow (λ b. isSignal (objectOf E e) (event E b)) e s (ltb-false s e t) in
       absurd (omega arith))
 
-  pub matched-found : (e : ℕ) → e < size E → eqb (kindOf E e) 2 ≡ true → (s : ℕ) × (matched (E .events) e ≡ Found.At s)
+  pub matched-found : (e : ℕ) → e < size E → eqb (kindOf E e) wait ≡ true → (s : ℕ) × (matched (E .events) e ≡ Found.At s)
   unfolding matched signalsOn
   matched-found e l q =
       let signals = tally-grow (λ b. isSignal (objectOf E e) (event E b)) e (size E) (omega arith) in

@@ -9,7 +9,7 @@ use lib.Dec.{ltb, eqb}
 use lib.ListN.{length, getD, take}
 use Rattle.model.specs.declared.Event.{Event}
 use Rattle.model.specs.Numbers.{bit, tally, count}
-use Rattle.model.specs.Recording.{event, ofTask, isOn, isSignal, isWait, isFork, isJoin, notJoined, forkKept, joinKept, waitKept, lifeKept, obeys, Recording, size, taskOf, kindOf, objectOf}
+use Rattle.model.specs.Recording.{event, ofTask, isOn, isSignal, isWait, isFork, isJoin, notJoined, forkKept, joinKept, waitKept, lifeKept, obeys, Recording, size, taskOf, kindOf, objectOf, fork, join, wait}
 use Rattle.model.specs.Orders.{place, Precedes, occurrences, rearranged, Obeying, Admissible}
 use Rattle.model.proofs.Tests.{both, first, second, of-not, all-three, implied, tests, compared, eqb-true, eqb-false, eq-eqb, lt-ltb, ltb-true}
 use Rattle.model.proofs.Counting.{count-map}
@@ -24,7 +24,7 @@ module _ (before : List Event) (v : Event) (h : obeys before v ≡ true) where
   life = all-three _ _ _ (first (lifeKept before v) (waitKept before v) h)
 
   -- at a wait there are more signals than waits on its semaphore before it
-  wait-part : eqb (v .kind) 2 ≡ true → count (isWait (v .object)) before < count (isSignal (v .object)) before
+  wait-part : eqb (v .kind) wait ≡ true → count (isWait (v .object)) before < count (isSignal (v .object)) before
   unfolding obeys waitKept
   wait-part t =
       ltb-true (count (isWait (v .object)) before) (count (isSignal (v .object)) before)
@@ -94,22 +94,22 @@ module _ (E : Recording) (o : List ℕ) (adm : Admissible E o) where
       compared (place o a) (place o b) (λ h. absurd (n h)) (λ e. place-inj (size E) o (adm .once) a b k l e) (λ h. absurd (m h))
 
   -- a fork at f names another task, which no fork before it names and which has no event before it
-  fork-rest : (f : ℕ) → f < size E → eqb (kindOf E f) 3 ≡ true
+  fork-rest : (f : ℕ) → f < size E → eqb (kindOf E f) fork ≡ true
       → (not (eqb (objectOf E f) (taskOf E f)) ≡ true)
       × (eqb (count (isFork (objectOf E f)) (earlier E o f)) 0 ≡ true)
       × (eqb (count (ofTask (objectOf E f)) (earlier E o f)) 0 ≡ true)
   fork-rest f l t = all-three _ _ _ (implied (life (earlier E o f) (event E f) (rule-at f l) .1) t)
 
-  join-rest : (j : ℕ) → j < size E → eqb (kindOf E j) 4 ≡ true
+  join-rest : (j : ℕ) → j < size E → eqb (kindOf E j) join ≡ true
       → (not (eqb (objectOf E j) (taskOf E j)) ≡ true)
       × (ltb 0 (count (isFork (objectOf E j)) (earlier E o j)) ≡ true)
       × (eqb (count (isJoin (objectOf E j)) (earlier E o j)) 0 ≡ true)
   join-rest j l t = all-three _ _ _ (implied (life (earlier E o j) (event E j) (rule-at j l) .2) t)
 
-  pub fork-other : (f : ℕ) → f < size E → eqb (kindOf E f) 3 ≡ true → ¬ (objectOf E f ≡ taskOf E f)
+  pub fork-other : (f : ℕ) → f < size E → eqb (kindOf E f) fork ≡ true → ¬ (objectOf E f ≡ taskOf E f)
   fork-other f l t = eqb-false (objectOf E f) (taskOf E f) (of-not _ (fork-rest f l t .0))
 
-  pub join-other : (j : ℕ) → j < size E → eqb (kindOf E j) 4 ≡ true → ¬ (objectOf E j ≡ taskOf E j)
+  pub join-other : (j : ℕ) → j < size E → eqb (kindOf E j) join ≡ true → ¬ (objectOf E j ≡ taskOf E j)
   join-other j l t = eqb-false (objectOf E j) (taskOf E j) (of-not _ (join-rest j l t .0))
 
   -- a task's fork is before its events
@@ -129,7 +129,7 @@ module _ (E : Recording) (o : List ℕ) (adm : Admissible E o) where
       (λ p. nothing-before (isJoin (taskOf E e)) e j (life (earlier E o e) (event E e) (rule-at e l) .0) k t p)
 
   -- a join's fork is before it
-  pub join-forked : (j : ℕ) → j < size E → eqb (kindOf E j) 4 ≡ true → (f : ℕ) × (f < size E) × (isFork (objectOf E j) (event E f) ≡ true) × Precedes o f j
+  pub join-forked : (j : ℕ) → j < size E → eqb (kindOf E j) join ≡ true → (f : ℕ) × (f < size E) × (isFork (objectOf E j) (event E f) ≡ true) × Precedes o f j
   join-forked j l t =
       let c = join-rest j l t .1 in
       let s = count-earlier E o (adm .once) (isFork (objectOf E j)) j in
@@ -154,7 +154,7 @@ module _ (E : Recording) (o : List ℕ) (adm : Admissible E o) where
   one-join = one-of 4 (λ g l t. join-rest g l t .2)
 
   -- before a wait there are more signals than waits on its semaphore
-  pub wait-served : (e : ℕ) → e < size E → eqb (kindOf E e) 2 ≡ true
+  pub wait-served : (e : ℕ) → e < size E → eqb (kindOf E e) wait ≡ true
       → tally (λ a. isWait (objectOf E e) (event E a) && sooner o a e) (size E)
       < tally (λ a. isSignal (objectOf E e) (event E a) && sooner o a e) (size E)
   wait-served e l t =

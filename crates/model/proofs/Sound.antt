@@ -10,7 +10,7 @@ use native.Mathlib.Omega.{arith}
 use lib.Dec.{leb, ltb, eqb}
 use lib.ListN.{length, getD, set, length-set}
 use Rattle.model.specs.Numbers.{tally, count, largest, kthLeast, listOf, picked}
-use Rattle.model.specs.Recording.{event, ofTask, isSignal, isWait, Recording, size, taskOf, kindOf, objectOf, tasks}
+use Rattle.model.specs.Recording.{event, ofTask, isSignal, isWait, Recording, size, taskOf, kindOf, objectOf, tasks, wait}
 use Rattle.model.specs.Orders.{place, Precedes, Admissible}
 use Rattle.model.specs.Vectors.{position, Vectors, number, ordered, start}
 use Rattle.model.specs.Passes.{sources, gathered, stepOne, signalsOn, waitsOn, kWhere, needed, candidates, served, raised, passTo, pass}
@@ -130,12 +130,12 @@ module _ (E : Recording) (o : List ℕ) (adm : Admissible E o) where
   -- the order puts at least k signals before a wait
   needed-served : (X : Vectors) → Safe E o X → (e : ℕ) → e < size E → needed E X e ≤ tally (sooner-signal e) (size E)
   unfolding needed waitsOn
-  needed-served X safe e l = go (eqb (kindOf E e) 2) refl
+  needed-served X safe e l = go (eqb (kindOf E e) wait) refl
     where
       own : ℕ → Bool
       own a = isWait (objectOf E e) (event E a)
 
-      go : (b : Bool) → eqb (kindOf E e) 2 ≡ b → kWhere E X e b ≤ tally (sooner-signal e) (size E)
+      go : (b : Bool) → eqb (kindOf E e) wait ≡ b → kWhere E X e b ≤ tally (sooner-signal e) (size E)
       go false q = zero-le
       go true q =
           let waits = count-picked own (λ w. ordered (E .events) X w e) (size E) in

@@ -10,7 +10,7 @@ use native.Mathlib.Nat.{not-suc-le-zero}
 use native.Mathlib.Omega.{arith}
 use lib.Dec.{ltb, eqb}
 use Rattle.model.specs.Numbers.{lastOf, found}
-use Rattle.model.specs.Recording.{event, ofTask, isFork, Recording, size, taskOf, kindOf, objectOf}
+use Rattle.model.specs.Recording.{event, ofTask, isFork, Recording, size, taskOf, kindOf, objectOf, join}
 use Rattle.model.specs.Orders.{Precedes, Admissible}
 use Rattle.model.specs.Passes.{previous, forkOf, lastEvent, firstFound, beforeOrFork, joinSources, sources}
 use Rattle.model.proofs.Tests.{cases, clash, both, last-or-lower, eqb-true, eq-eqb, ltb-true, ltb-false}
@@ -61,8 +61,8 @@ last-found p n y l t = go (lastOf p n) refl
 pub data Source (E : Recording) (e s : ℕ) : Type 0 where
   before : s < e → taskOf E s ≡ taskOf E e → Source E e s
   forked : s < size E → isFork (taskOf E e) (event E s) ≡ true → Source E e s
-  join-fork : eqb (kindOf E e) 4 ≡ true → s < size E → isFork (objectOf E e) (event E s) ≡ true → Source E e s
-  join-end : eqb (kindOf E e) 4 ≡ true → s < size E → taskOf E s ≡ objectOf E e → Source E e s
+  join-fork : eqb (kindOf E e) join ≡ true → s < size E → isFork (objectOf E e) (event E s) ≡ true → Source E e s
+  join-end : eqb (kindOf E e) join ≡ true → s < size E → taskOf E s ≡ objectOf E e → Source E e s
 
 pub of-found : {s : ℕ} (m : Found) → List·Memᴰ s (found m) → m ≡ Found.At s
 of-found Found.Nothing h = absurd (List·Memᴰ·not-nil h)
@@ -81,7 +81,7 @@ source-of E e s h = either (List·Memᴰ·append-cases (found (beforeOrFork (E .
         let r = last-some (λ a. ofTask (taskOf E e) (event E a)) e s (q ∙ of-found (Found.At x) k) in
         before (r .inside) (eqb-true (taskOf E s) (taskOf E e) (r .passes))
 
-    joined : (b : Bool) → eqb (kindOf E e) 4 ≡ b → List·Memᴰ s (joinSources (E .events) e b) → Source E e s
+    joined : (b : Bool) → eqb (kindOf E e) join ≡ b → List·Memᴰ s (joinSources (E .events) e b) → Source E e s
     joined false q k = absurd (List·Memᴰ·not-nil k)
     joined true q k = which (List·Memᴰ·append-cases (found (forkOf (E .events) (objectOf E e))) k)
       where
@@ -91,9 +91,9 @@ source-of E e s h = either (List·Memᴰ·append-cases (found (beforeOrFork (E .
             let r = last-some (λ a. ofTask (objectOf E e) (event E a)) (size E) s (of-found (lastEvent (E .events) (objectOf E e)) k) in
             join-end q (r .inside) (eqb-true (taskOf E s) (objectOf E e) (r .passes))
 
-    either : List·Memᴰ s (found (beforeOrFork (E .events) e)) ⊎ List·Memᴰ s (joinSources (E .events) e (eqb (kindOf E e) 4)) → Source E e s
+    either : List·Memᴰ s (found (beforeOrFork (E .events) e)) ⊎ List·Memᴰ s (joinSources (E .events) e (eqb (kindOf E e) join)) → Source E e s
     either (inl k) = own (previous (E .events) e) refl k
-    either (inr k) = joined (eqb (kindOf E e) 4) refl k
+    either (inr k) = joined (eqb (kindOf E e) join) refl k
 
 -- a source precedes its event in every admissible order
 pub source-precedes : (E : Recording) (o : List ℕ) → Admissible E o → (e s : ℕ) → e < size E → Source E e s → (s < size E) × Precedes o s e
@@ -114,14 +114,14 @@ pub has-fork : (E : Recording) (e s : ℕ) → previous (E .events) e ≡ Found.
 unfolding sources
 has-fork E e s q r = Memᴰ·append-left _ (subst (λ (m : Found). List·Memᴰ s (found (firstFound m (forkOf (E .events) (taskOf E e))))) (sym q) (in-found r))
 
-has-end : (E : Recording) (e s : ℕ) → eqb (kindOf E e) 4 ≡ true → List·Memᴰ s (found (forkOf (E .events) (objectOf E e)) ++ found (lastEvent (E .events) (objectOf E e))) → List·Memᴰ s (sources (E .events) e)
+has-end : (E : Recording) (e s : ℕ) → eqb (kindOf E e) join ≡ true → List·Memᴰ s (found (forkOf (E .events) (objectOf E e)) ++ found (lastEvent (E .events) (objectOf E e))) → List·Memᴰ s (sources (E .events) e)
 unfolding sources
 has-end E e s q h = Memᴰ·append-right (found (beforeOrFork (E .events) e)) (subst (λ (b : Bool). List·Memᴰ s (joinSources (E .events) e b)) (sym q) h)
 
-pub has-join-fork : (E : Recording) (e s : ℕ) → eqb (kindOf E e) 4 ≡ true → forkOf (E .events) (objectOf E e) ≡ Found.At s → List·Memᴰ s (sources (E .events) e)
+pub has-join-fork : (E : Recording) (e s : ℕ) → eqb (kindOf E e) join ≡ true → forkOf (E .events) (objectOf E e) ≡ Found.At s → List·Memᴰ s (sources (E .events) e)
 has-join-fork E e s q r = has-end E e s q (Memᴰ·append-left (found (lastEvent (E .events) (objectOf E e))) (in-found r))
 
-pub has-join-end : (E : Recording) (e s : ℕ) → eqb (kindOf E e) 4 ≡ true → lastEvent (E .events) (objectOf E e) ≡ Found.At s → List·Memᴰ s (sources (E .events) e)
+pub has-join-end : (E : Recording) (e s : ℕ) → eqb (kindOf E e) join ≡ true → lastEvent (E .events) (objectOf E e) ≡ Found.At s → List·Memᴰ s (sources (E .events) e)
 has-join-end E e s q r = has-end E e s q (Memᴰ·append-right (found (forkOf (E .events) (objectOf E e))) (in-found r))
 
 -- the fork of a task is the one that is found

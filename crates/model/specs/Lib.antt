@@ -19,3 +19,4 @@ pub mod Uncut
 pub mod RoundTrip
 pub mod Promise
 pub mod Questions
+pub mod Rows

@@ -4,13 +4,14 @@ use Prim.Native.Nat.{ℕ, _+_, _*_, _≤_, _<_}
 use mathlib.Core.Path.{_≡_}
 use mathlib.Core.Bool.{true}
 use mathlib.Core.List.{List, List·Memᴰ}
+use lib.ListN.{length}
 use Rattle.model.specs.declared.Trailer.{Trailer}
 use Rattle.model.specs.declared.Reading.{Reading}
 use Rattle.model.specs.Recording.{Recording, size, event}
 use Rattle.model.specs.File.{recordingOf}
 use Rattle.model.specs.Reading.{readingOf}
 use Rattle.model.specs.Orders.{Always, Sometimes}
-use Rattle.model.specs.Passes.{passesMade, isSettled}
+use Rattle.model.specs.Passes.{stepOne, needed, candidates, passTo, safeVectors, passesMade, isSettled}
 use Rattle.model.specs.Pairs.{conflict, Entry, OnList, listed}
 
 pub record Promise (E : Recording) (budget : ℕ) : Type 0 where
@@ -32,3 +33,10 @@ pub record Promise (E : Recording) (budget : ℕ) : Type 0 where
 -- the statement, proved as `promise` in proofs/Promise.antt
 abbrev pub Promised : Type 0
 Promised = (f : List ℕ) (h : Trailer) → readingOf f ≡ Reading.Accepted h → (budget : ℕ) → Promise (recordingOf f) budget
+
+-- fewer than k candidates never happens: of an accepted file, in no pass; proved as `enough-candidates` in proofs/Promise.antt
+abbrev pub EnoughCandidates : Type 0
+EnoughCandidates =
+    (f : List ℕ) (h : Trailer) → readingOf f ≡ Reading.Accepted h → (budget e : ℕ) → e < size (recordingOf f)
+    → let E = recordingOf f in
+    let X = stepOne E (passTo E (safeVectors E budget) e) e in needed E X e ≤ length (candidates E X e)

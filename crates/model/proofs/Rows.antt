@@ -1,0 +1,234 @@
+-- Each row computes; that conflict is symmetric is by the laws of `&&` and `||`.
+-- Assumes nothing.
+use Prim.Native.Nat.{ℕ}
+use mathlib.Core.Path.{_≡_, refl, sym, _∙_}
+use mathlib.Core.Bool.{and-comm, or-comm}
+use lib.Dec.{eqb}
+use Rattle.model.specs.declared.Event.{Event}
+use Rattle.model.specs.declared.Refusal.{Refusal}
+use Rattle.model.specs.declared.Reading.{Reading}
+use Rattle.model.specs.declared.Analysis.{Analysis}
+use Rattle.model.specs.declared.Relation.{Relation}
+use Rattle.model.specs.declared.Answer.{Answer}
+use Rattle.model.specs.declared.Written.{Written}
+use Rattle.model.specs.Pairs.{isWrite, isAccess, conflict}
+use Rattle.model.specs.Rows.Faults.{Faults}
+use Rattle.model.specs.Rows.Parts.{Parts}
+use Rattle.model.specs.Rows.Raised.{Raised}
+use Rattle.model.specs.Rows.Conflicts.{Conflicts}
+use Rattle.model.specs.Rows.Table.{Table}
+use Rattle.model.specs.Rows.Lent.{Lent}
+use Rattle.model.specs.Rows.Printed.{Printed}
+use Rattle.model.specs.Rows.Beyond.{Beyond}
+use Rattle.model.proofs.Tests.{cases, eqb-true, eqb-false, eq-eqb, ne-eqb}
+use Rattle.model.proofs.Computing.{rows, refusal}
+
+pub faults : Faults
+unfolding rows
+faults = record {
+  edition-before-extent = refusal Reading.Refused Refusal.Edition;
+  extent-before-count = refusal Reading.Refused Refusal.Extent;
+  count-before-records = refusal Reading.Refused Refusal.Count;
+  first-record = refusal Reading.Refused (Refusal.Empty 0);
+  kind-before-name = refusal Reading.Refused (Refusal.Kind 0);
+  name-before-life = refusal Reading.Refused (Refusal.Name 0);
+  life-before-empty = refusal Reading.Refused (Refusal.Life 2);
+  kind-0 = refusal Reading.Refused (Refusal.Kind 1);
+  kind-7 = refusal Reading.Refused (Refusal.Kind 1);
+  names = refl;
+  task-3 = refusal Reading.Refused (Refusal.Name 0);
+  signal-1 = refusal Reading.Refused (Refusal.Name 0);
+  wait-1 = refusal Reading.Refused (Refusal.Name 0);
+  fork-3 = refusal Reading.Refused (Refusal.Name 0);
+  join-3 = refusal Reading.Refused (Refusal.Name 0);
+  read-2 = refusal Reading.Refused (Refusal.Name 0);
+  write-2 = refusal Reading.Refused (Refusal.Name 0);
+  no-cells = refl;
+  joined-goes-on = refusal Reading.Refused (Refusal.Life 2);
+  forks-itself = refusal Reading.Refused (Refusal.Life 0);
+  forked-twice = refusal Reading.Refused (Refusal.Life 1);
+  forked-late = refusal Reading.Refused (Refusal.Life 1);
+  joins-itself = refusal Reading.Refused (Refusal.Life 1);
+  joined-unforked = refusal Reading.Refused (Refusal.Life 1);
+  joined-twice = refusal Reading.Refused (Refusal.Life 2);
+  waits-twice = refusal Reading.Refused (Refusal.Empty 2);
+  waits-early = refusal Reading.Refused (Refusal.Empty 0);
+  waits-on-another = refusal Reading.Refused (Refusal.Empty 1);
+  served-twice = refl;
+}
+
+pub parts : Parts
+unfolding rows
+parts = record {
+  fields = refl;
+  edition = refl;
+  kept-read = refl;
+  kept-preamble = refl;
+  kept-records = refl;
+  broken-read = refusal Reading.Refused (Refusal.Empty 0);
+  broken-preamble = refl;
+  broken-records = refl;
+  step-0 = refl;
+  step-1 = refl;
+  step-2 = refl;
+  step-3 = refl;
+}
+
+pub raised : Raised
+unfolding rows
+raised = record {
+  waited-twice = (refl, refl, refl);
+  waited-twice-recorded = refl;
+  forked-0 = (refl, refl, refl);
+  forked = (refl, refl, refl);
+  forked-recorded = refl;
+  idle-joined = (refl, refl, refl);
+  idle-joined-recorded = refl;
+  nothing-shared = (refl, refl, refl);
+  two-semaphores = (refl, refl, refl);
+  two-semaphores-recorded = refl;
+  handed-on = (refl, refl, refl);
+  slow-1 = (refl, refl, refl);
+  slow-2 = (refl, refl, refl);
+  slow-settled = (refl, refl, refl);
+  slow-recorded = refl;
+}
+
+eqb-sym : (m n : ℕ) → eqb m n ≡ eqb n m
+eqb-sym m n =
+    cases (eqb m n) (λ t. t ∙ sym (eq-eqb n m (sym (eqb-true m n t)))) (λ t. t ∙ sym (ne-eqb n m (λ q. eqb-false m n t (sym q))))
+
+symmetric : (v w : Event) → conflict v w ≡ conflict w v
+unfolding conflict
+symmetric v w =
+    rw (and-comm (isAccess v) (isAccess w), eqb-sym (v .object) (w .object), eqb-sym (v .task) (w .task), or-comm (isWrite v) (isWrite w))
+
+pub conflicts : Conflicts
+unfolding rows
+conflicts = record {
+  symmetric = symmetric;
+  write-write = refl;
+  read-write = refl;
+  write-read = refl;
+  read-read = refl;
+  one-task = refl;
+  two-cells = refl;
+  no-access = refl;
+  no-kind = refl;
+  by-cell = refl;
+  by-event = refl;
+}
+
+pub table : Table
+unfolding rows
+table = record {
+  short = refusal Reading.Refused Refusal.Short;
+  edition = refusal Reading.Refused Refusal.Edition;
+  extent = refusal Reading.Refused Refusal.Extent;
+  count = refusal Reading.Refused Refusal.Count;
+  kind = refusal Reading.Refused (Refusal.Kind 1);
+  name = refusal Reading.Refused (Refusal.Name 1);
+  life = refusal Reading.Refused (Refusal.Life 1);
+  empty = refusal Reading.Refused (Refusal.Empty 1);
+  work = refusal Analysis.Refused Refusal.Work;
+  work-3 = refusal Analysis.Refused Refusal.Work;
+  work-asked = refusal Answer.Refused Refusal.Work;
+  list = refusal Analysis.Refused (Refusal.List 1);
+  list-3 = refusal Analysis.Refused (Refusal.List 3);
+  event-a = refusal Answer.Refused Refusal.Event;
+  event-b = refusal Answer.Refused Refusal.Event;
+  event-same = refusal Answer.Refused Refusal.Event;
+  out = refusal Written.Refused Refusal.Out;
+  extent-written = refusal Written.Refused Refusal.Extent;
+  count-written = refusal Written.Refused Refusal.Count;
+  kind-written = refusal Written.Refused (Refusal.Kind 1);
+  file-before-work = refusal Analysis.Refused (Refusal.Life 0);
+  file-before-event = refusal Answer.Refused (Refusal.Life 0);
+  event-before-work = refusal Answer.Refused Refusal.Event;
+  work-before-list = refusal Analysis.Refused Refusal.Work;
+  extent-before-count = refusal Written.Refused Refusal.Extent;
+  extent-before-kind = refusal Written.Refused Refusal.Extent;
+  record-before-out = refusal Written.Refused (Refusal.Life 0);
+  a-first = (Relation.First, refl, refl);
+  b-first = (Relation.Second, refl, refl);
+  is-open = (Relation.Open, refl, refl);
+  open-back = (Relation.Open, refl, refl);
+  is-sure = (Relation.Sure, refl, refl);
+}
+
+pub lent : Lent
+unfolding rows
+lent = record {
+  work-start = refl;
+  work-raised = refl;
+  work-three-tasks = refl;
+  list-one = refl;
+  list-none = refl;
+  file-work = refl;
+  file-list = refl;
+  work-short-work = refl;
+  work-short-list = refl;
+  list-short-list = refl;
+  a-first = refl;
+  b-first = refl;
+  is-open = refl;
+  is-sure = refl;
+  ask-file = refl;
+  ask-event = refl;
+  ask-work-short = refl;
+  length = refl;
+  written = refl;
+  no-records = refl;
+  just-fits = refl;
+  record-refused = refl;
+  out-short = refl;
+}
+
+pub printed : Printed
+unfolding rows
+printed = record {
+  g = refl;
+  i = refl;
+  j = refl;
+  no-events = refl;
+  is-open = refl;
+  two-cells = refl;
+  at-record = refl;
+  list-full = refl;
+  budget = refl;
+  unsettled = refl;
+  bytes-16384 = refl;
+  bytes-16385 = refl;
+  work-left = refl;
+  list-left = refl;
+  work-kept = refl;
+  list-kept = refl;
+  zero = refl;
+  nine = refl;
+  ten = refl;
+  largest = refl;
+  cut-off = refl;
+  fits = refl;
+  beyond = refl;
+  fills-9 = refl;
+  fills-12 = refl;
+}
+
+pub beyond : Beyond
+unfolding rows
+beyond = record {
+  no-trailer = refl;
+  no-record = refl;
+  no-event = refl;
+  kind-0 = refl;
+  kind-7 = refl;
+  no-vector = refl;
+  no-task = refl;
+  no-place = refl;
+  no-match = refl;
+  fewer-than-k = refl;
+  k-0 = refl;
+  bits-17 = refl;
+  bits-33 = refl;
+  digits-21 = refl;
+}
