@@ -1,7 +1,7 @@
 // Reads a recording from standard input and prints its report. What is printed is made by
 // `report::report`; here is only the reading and the writing. One byte more than a file may have is
-// read, so that a longer one is seen; the output has room for the first line and 8,192 entries, of
-// less than 31 bytes each.
+// read, so that a longer one is seen; that the output has room for every report is `Uncut` in the
+// specs of `model`.
 use libc::STDIN_FILENO;
 use libc::STDOUT_FILENO;
 

@@ -6,10 +6,10 @@ use mathlib.Core.Path.{_≡_}
 use mathlib.Core.Bool.{Bool, true, false}
 use mathlib.Core.List.{List}
 use Rattle.second.specs.declared.Reading.{Reading}
-use Rattle.second.specs.declared.Outcome.{Outcome}
+use Rattle.second.specs.declared.Findings.{Findings}
 use Rattle.second.specs.declared.Reply.{Reply}
 use Rattle.second.specs.declared.Sent.{Sent}
-use Rattle.second.specs.declared.scan.Header.{Header}
+use Rattle.second.specs.declared.scan.Trailer.{Trailer}
 use Rattle.second.specs.declared.scan.Fault.{Fault}
 
 -- a refusal, at most so high: 5 to 8 name one of n records, and every other number, 0 too, names record 0
@@ -31,16 +31,16 @@ pub record Ranged (n t s c : ℕ) : Type 0 where
   pub semaphores : s ≤ 64
   pub cells : c ≤ 1024
 
--- a header of a file of so many bytes: refusals 1 to 4, or at least one task, and a start and records that meet the length
-pub record Headed (size : ℕ) (h : Header) : Type 0 where
+-- a trailer of a file of so many bytes: refusals 1 to 4, or at least one task, and a start and records that meet the length
+pub record TrailerFor (size : ℕ) (h : Trailer) : Type 0 where
   pub refusal : h .refusal ≤ 4
   pub ranges : Ranged (h .events) (h .tasks) (h .semaphores) (h .cells)
   pub within : h .start + 4 * h .events ≤ size - 16
   pub task : h .refusal ≡ 0 → 1 ≤ h .tasks
   pub extent : h .refusal ≡ 0 → h .start + 4 * h .events + 16 ≡ size
 
--- a header that says nothing but its refusal
-pub record Blank (number : ℕ) (h : Header) : Type 0 where
+-- a trailer that says nothing but its refusal
+pub record Blank (number : ℕ) (h : Trailer) : Type 0 where
   pub refusal : h .refusal ≡ number
   pub start : h .start ≡ 0
   pub events : h .events ≡ 0
@@ -48,10 +48,10 @@ pub record Blank (number : ℕ) (h : Header) : Type 0 where
   pub semaphores : h .semaphores ≡ 0
   pub cells : h .cells ≡ 0
 
--- the first fault of a header and the records behind its start
-pub record FirstFault (h : Header) (f : Fault) : Type 0 where
+-- the first fault of a trailer and the records behind its start
+pub record FirstFault (h : Trailer) (f : Fault) : Type 0 where
   pub refusal : Refused 8 (h .events) (f .number) (f .«record»)
-  pub header : f .number ≡ 0 → h .refusal ≡ 0
+  pub trailer : f .number ≡ 0 → h .refusal ≡ 0
 
 -- a reading of a file of so many bytes
 pub record Read (size : ℕ) (r : Reading) : Type 0 where
@@ -67,7 +67,7 @@ pub record Passed (budget passes : ℕ) (settled : Bool) : Type 0 where
   pub spent : settled ≡ false → passes ≡ budget
 
 -- analysing with a budget, and so many numbers for the list
-pub record Analysed (budget slots : ℕ) (o : Outcome) : Type 0 where
+pub record Analysed (budget slots : ℕ) (o : Findings) : Type 0 where
   pub refusal : Refused 10 1024 (o .refusal) (o .«record»)
   pub passes : o .passes ≤ budget
   pub run : o .refusal ≡ 0 → Passed budget (o .passes) (o .settled)
@@ -75,7 +75,7 @@ pub record Analysed (budget slots : ℕ) (o : Outcome) : Type 0 where
   pub full : o .refusal ≡ 10 → slots < 3 * o .pairs
 
 -- refusals 1 to 9 of analysing have made no pass and no pair, and leave the lent numbers as they came
-pub record Unanalysed (o : Outcome) (v w l v′ w′ l′ : List ℕ) : Type 0 where
+pub record Unanalysed (o : Findings) (v w l v′ w′ l′ : List ℕ) : Type 0 where
   pub pairs : o .pairs ≡ 0
   pub passes : o .passes ≡ 0
   pub settled : o .settled ≡ false

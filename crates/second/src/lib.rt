@@ -7,7 +7,7 @@ ghost use Prim.Native.Nat.{_+_, _≤_};
 ghost use lib.ListN.{length};
 ghost use Rattle.second.specs.Answers.{
   Refused,
-  Headed,
+  TrailerFor,
   Read,
   Analysed,
   Unanalysed,
@@ -37,7 +37,7 @@ pub struct Reading {
 }
 
 // What analysing gives: a refusal's number and record, and the pairs needed; or 0, and the result.
-pub struct Outcome {
+pub struct Findings {
     pub refusal: u16,
     pub record: u16,
     pub pairs: u32,
@@ -63,7 +63,7 @@ pub struct Sent {
 fn load(file: &[u8], events: &mut [u16], links: &mut [u16]) -> Reading
     ensures { λ r. ⌜ Read (length (now (file .entry))) r ⌝ }
 {
-    let h = scan::trailer(file);
+    let h = scan::read_trailer(file);
     let fault = scan::first_fault(file, h, events, links);
     Reading {
         refusal: fault.number,
@@ -119,13 +119,13 @@ fn analyse_events(
     safe: &mut [u16],
     recorded: &mut [u16],
     list: &mut [u16],
-) -> Outcome
+) -> Findings
     ensures { λ o. ⌜ Analysed budget slots o × (1 ≤ o .refusal → o .refusal ≡ 10) ⌝ }
 {
     let run = vectors::run(events, links, n, budget, safe);
     vectors::replay(events, links, n, recorded);
     let pairs = listing::list_pairs(events, n, safe, recorded, list);
-    Outcome {
+    Findings {
         refusal: if slots / 3 < pairs as usize { 10 } else { 0 },
         record: 0,
         pairs,
@@ -145,7 +145,7 @@ pub fn analyse(
     safe: &mut [u16],
     recorded: &mut [u16],
     list: &mut [u16],
-) -> Outcome
+) -> Findings
     ensures { λ o. ⌜ Analysed budget slots o ⌝ }
     ensures { λ o. ⌜ (1 ≤ o .refusal → o .refusal ≤ 9 → Unanalysed o (now (safe .entry)) (now (recorded .entry)) (now (list .entry)) (now (safe .exit)) (now (recorded .exit)) (now (list .exit))) ⌝ }
 {
@@ -154,7 +154,7 @@ pub fn analyse(
     let r = load(file, &mut events, &mut links);
     let fault = work_fault(r, room);
     if fault.number != 0 {
-        return Outcome {
+        return Findings {
             refusal: fault.number,
             record: fault.record,
             pairs: 0,
@@ -265,9 +265,9 @@ pub fn ask(
     }
 }
 
-// Refusals 3 and 4 of writing, or the header of the file to write.
-fn counted(records: &[u8], tasks: u16, semaphores: u16, cells: u16) -> scan::Header
-    ensures { λ h. ⌜ Headed (length (now (records .entry)) + 16) h ⌝ }
+// Refusals 3 and 4 of writing, or the trailer of the file to write.
+fn counted(records: &[u8], tasks: u16, semaphores: u16, cells: u16) -> scan::Trailer
+    ensures { λ h. ⌜ TrailerFor (length (now (records .entry)) + 16) h ⌝ }
 {
     if records.len() % 4 != 0 {
         return scan::refused(3);
@@ -276,8 +276,8 @@ fn counted(records: &[u8], tasks: u16, semaphores: u16, cells: u16) -> scan::Hea
 }
 
 // The refusal of the counts or of a record, or else 12 where room is less than the file needs.
-fn writing_fault(records: &[u8], h: scan::Header, room: usize) -> scan::Fault
-    requires { ⌜ Headed (length (now records) + 16) h ⌝ }
+fn writing_fault(records: &[u8], h: scan::Trailer, room: usize) -> scan::Fault
+    requires { ⌜ TrailerFor (length (now records) + 16) h ⌝ }
     ensures { λ f. ⌜ WritingFault (length (now (records .entry))) room (f .number) (f .«record») ⌝ }
 {
     let mut events = [0u16; 4096];

@@ -4,7 +4,7 @@
 ghost use mathlib.Core.Path.{_≡_};
 ghost use Prim.Native.Nat.{ℕ, _+_, _*_, _≤_};
 ghost use lib.ListN.{length};
-ghost use Rattle.second.specs.Answers.{Refused, RecordFault, Headed, Blank, FirstFault};
+ghost use Rattle.second.specs.Answers.{Refused, RecordFault, TrailerFor, Blank, FirstFault};
 use crate::memory::KIND;
 use crate::memory::OBJECT;
 use crate::memory::POSITION;
@@ -44,7 +44,7 @@ pub(crate) const ENDED: u16 = 2;
 pub(crate) const TAKEN: u16 = 3;
 
 // A trailer; refusal is 0 where 1 to 4 do not apply.
-pub(crate) struct Header {
+pub(crate) struct Trailer {
     pub(crate) refusal: u16,
     pub(crate) start: usize,
     pub(crate) events: u16,
@@ -59,11 +59,11 @@ pub(crate) struct Fault {
     pub(crate) record: u16,
 }
 
-// A header with nothing but a refusal.
-pub(crate) fn refused(number: u16) -> Header
+// A trailer with nothing but a refusal.
+pub(crate) fn refused(number: u16) -> Trailer
     ensures { λ h. ⌜ Blank number h ⌝ }
 {
-    Header {
+    Trailer {
         refusal: number,
         start: 0,
         events: 0,
@@ -73,9 +73,9 @@ pub(crate) fn refused(number: u16) -> Header
     }
 }
 
-// A header of these counts, or refusal 4 where one is beyond its range.
-pub(crate) fn ranged(start: usize, n: usize, tasks: u16, semaphores: u16, cells: u16) -> Header
-    ensures { λ h. ⌜ Headed (start + 4 * n + 16) h ⌝ }
+// A trailer of these counts, or refusal 4 where one is beyond its range.
+pub(crate) fn ranged(start: usize, n: usize, tasks: u16, semaphores: u16, cells: u16) -> Trailer
+    ensures { λ h. ⌜ TrailerFor (start + 4 * n + 16) h ⌝ }
 {
     if tasks < 1 {
         return refused(4);
@@ -92,7 +92,7 @@ pub(crate) fn ranged(start: usize, n: usize, tasks: u16, semaphores: u16, cells:
     if 1024 < n {
         return refused(4);
     }
-    Header {
+    Trailer {
         refusal: 0,
         start,
         events: n as u16,
@@ -103,8 +103,8 @@ pub(crate) fn ranged(start: usize, n: usize, tasks: u16, semaphores: u16, cells:
 }
 
 // Refusals 1 to 4.
-pub(crate) fn trailer(file: &[u8]) -> Header
-    ensures { λ h. ⌜ Headed (length (now (file .entry))) h ⌝ }
+pub(crate) fn read_trailer(file: &[u8]) -> Trailer
+    ensures { λ h. ⌜ TrailerFor (length (now (file .entry))) h ⌝ }
 {
     let size = file.len();
     if size < 16 {
@@ -138,7 +138,7 @@ fn decode(records: &[u8], e: u16, events: &mut [u16]) {
 }
 
 // How many names the objects of a kind have.
-fn names(kind: u16, h: Header) -> u16 {
+fn names(kind: u16, h: Trailer) -> u16 {
     if kind <= 2 {
         return h.semaphores;
     }
@@ -167,7 +167,7 @@ fn life_broken(state: &[u16], task: u16, kind: u16, object: u16) -> bool {
 }
 
 // Refusals 5 to 8 of record e; 0 for none.
-fn fault_of(events: &[u16], e: u16, h: Header, state: &[u16]) -> u16
+fn fault_of(events: &[u16], e: u16, h: Trailer, state: &[u16]) -> u16
     ensures { λ r. ⌜ RecordFault r ⌝ }
 {
     let task = get(events, e, TASK);
@@ -259,7 +259,7 @@ fn note(e: u16, events: &mut [u16], links: &mut [u16], state: &mut [u16]) {
 fn step(
     records: &[u8],
     e: u16,
-    h: Header,
+    h: Trailer,
     events: &mut [u16],
     links: &mut [u16],
     state: &mut [u16],
@@ -278,7 +278,7 @@ fn step(
 // The records in order, up to the first faulty one.
 pub(crate) fn scan(
     records: &[u8],
-    h: Header,
+    h: Trailer,
     events: &mut [u16],
     links: &mut [u16],
     state: &mut [u16],
@@ -298,8 +298,8 @@ pub(crate) fn scan(
     }
 }
 
-// The refusal of a header, or else of the first faulty record behind its start.
-pub(crate) fn first_fault(file: &[u8], h: Header, events: &mut [u16], links: &mut [u16]) -> Fault
+// The refusal of a trailer, or else of the first faulty record behind its start.
+pub(crate) fn first_fault(file: &[u8], h: Trailer, events: &mut [u16], links: &mut [u16]) -> Fault
     requires { ⌜ (h .refusal ≤ 4) × (h .start ≤ length (now file)) ⌝ }
     ensures { λ f. ⌜ FirstFault h f ⌝ }
 {

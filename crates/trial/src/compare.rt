@@ -24,11 +24,11 @@ fn same_refusal(r: Refusal, number: u16, record: u16) -> bool {
     r.number() as u16 == number && r.record() == record as usize
 }
 
-fn same_list_refusal(r: Refusal, o: second::Outcome) -> bool {
+fn same_list_refusal(r: Refusal, o: second::Findings) -> bool {
     same_refusal(r, o.refusal, o.record) && r.pairs() == o.pairs as usize
 }
 
-fn same_answer(answer: Analysis, o: second::Outcome) -> bool {
+fn same_answer(answer: Analysis, o: second::Findings) -> bool {
     match answer {
         Analysis::Done {
             passes,

@@ -1,4 +1,4 @@
--- `second::load` meets its contract: the refusal is that of the first fault, the rest is the header's. Assumes nothing.
+-- `second::load` meets its contract: the refusal is that of the first fault, the rest is the trailer's. Assumes nothing.
 use borrow.Author.Needs.{needs}
 use Rattle.second.proofs.load.Statement.{statement}
 use Rattle.second.proofs.load.Tie as tie
@@ -6,8 +6,8 @@ use Rattle.second.proofs.load.Tie as tie
 returns : tie.Need-returns
 returns c =
     let f = c .before .before .before .before .first-fault .ensures in
-    let h = c .before .before .before .before .before .before .before .trailer .ensures in
-    record { refusal = f .refusal; ranges = h .ranges; task = λ e. h .task (f .header e); extent = λ e. h .extent (f .header e) }
+    let h = c .before .before .before .before .before .before .before .read-trailer .ensures in
+    record { refusal = f .refusal; ranges = h .ranges; task = λ e. h .task (f .trailer e); extent = λ e. h .extent (f .trailer e) }
 
 pub load-spec : {M : Type 1} → statement M
 load-spec =

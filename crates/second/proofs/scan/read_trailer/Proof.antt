@@ -1,12 +1,12 @@
 -- `second::scan::trailer` meets its contract: start and records meet the length. Assumes nothing.
 use native.Mathlib.Omega.{arith}
-use Rattle.second.proofs.Laws.{headed-at}
+use Rattle.second.proofs.Laws.{trailer-for}
 use borrow.Author.Needs.{needs}
-use Rattle.second.proofs.scan.trailer.Statement.{statement}
-use Rattle.second.proofs.scan.trailer.Tie as tie
+use Rattle.second.proofs.scan.read_trailer.Statement.{statement}
+use Rattle.second.proofs.scan.read_trailer.Tie as tie
 
-pub trailer-spec : {M : Type 1} → statement M
-trailer-spec =
+pub read-trailer-spec : {M : Type 1} → statement M
+read-trailer-spec =
     tie.close
     (tie.spec
     (λ c κs. search needs)
@@ -29,4 +29,4 @@ trailer-spec =
     (λ c κs. search needs)
     (λ c κs. search needs)
     (λ c κs. search needs)
-    (λ c. headed-at (c .ranged .ensures) (omega arith)))
+    (λ c. trailer-for (c .ranged .ensures) (omega arith)))
