@@ -1,8 +1,7 @@
 // One reading of a file, from the first record to the last: the refusals, each record's place in its
 // task, and the events that it follows. The state is a slice of numbers by task and by semaphore;
 // an event in it is its number plus 1, and 0 stands for none.
-ghost use mathlib.Core.Path.{_≡_};
-ghost use Prim.Native.Nat.{ℕ, _+_, _*_, _≤_};
+ghost use Prim.Native.Nat.{_+_, _*_, _≤_};
 ghost use lib.ListN.{length};
 ghost use Rattle.second.specs.Answers.{Refused, RecordFault, TrailerFor, Blank, FirstFault};
 use crate::memory::KIND;
