@@ -13,7 +13,7 @@ use Rattle.model.specs.declared.Check.{Check}
 use Rattle.model.specs.declared.Reading.{Reading}
 use Rattle.model.specs.Recording.{size, noEvent, Accepted}
 use Rattle.model.specs.File.{eventAt, eventsOf, trailerAt, trailerOf, editionOf, recordBytes, recordingOf}
-use Rattle.model.specs.Reading.{extentMet, inRange, fileCheck, readingBy, readingOf}
+use Rattle.model.specs.Reading.{extentMet, inRange, fileCheck, readingBy, readingOf, mostTasks, mostSemaphores, mostCells, mostEvents}
 use Rattle.model.specs.Acceptable.{InRange}
 use Rattle.model.proofs.Tests.{first, second, leb-true, eqb-true}
 use Rattle.model.proofs.Checks.{unless-passed}
@@ -22,15 +22,15 @@ use Rattle.model.proofs.Lists.{listOf-length}
 pub in-range : (c : Counts) (n : ℕ) → inRange c n ≡ true → InRange c n
 unfolding inRange
 in-range c n h =
-    let d = first (leb 1 (c .tasks) && leb (c .tasks) 16 && leb (c .semaphores) 64 && leb (c .cells) 1024) (leb n 1024) h in
-    let e = first (leb 1 (c .tasks) && leb (c .tasks) 16 && leb (c .semaphores) 64) (leb (c .cells) 1024) d in
-    let g = first (leb 1 (c .tasks) && leb (c .tasks) 16) (leb (c .semaphores) 64) e in
+    let d = first (leb 1 (c .tasks) && leb (c .tasks) mostTasks && leb (c .semaphores) mostSemaphores && leb (c .cells) mostCells) (leb n mostEvents) h in
+    let e = first (leb 1 (c .tasks) && leb (c .tasks) mostTasks && leb (c .semaphores) mostSemaphores) (leb (c .cells) mostCells) d in
+    let g = first (leb 1 (c .tasks) && leb (c .tasks) mostTasks) (leb (c .semaphores) mostSemaphores) e in
     record {
-      some-task = leb-true 1 (c .tasks) (first (leb 1 (c .tasks)) (leb (c .tasks) 16) g);
-      few-tasks = leb-true (c .tasks) 16 (second (leb 1 (c .tasks)) (leb (c .tasks) 16) g);
-      few-semaphores = leb-true (c .semaphores) 64 (second (leb 1 (c .tasks) && leb (c .tasks) 16) (leb (c .semaphores) 64) e);
-      few-cells = leb-true (c .cells) 1024 (second (leb 1 (c .tasks) && leb (c .tasks) 16 && leb (c .semaphores) 64) (leb (c .cells) 1024) d);
-      few-records = leb-true n 1024 (second (leb 1 (c .tasks) && leb (c .tasks) 16 && leb (c .semaphores) 64 && leb (c .cells) 1024) (leb n 1024) h);
+      some-task = leb-true 1 (c .tasks) (first (leb 1 (c .tasks)) (leb (c .tasks) mostTasks) g);
+      few-tasks = leb-true (c .tasks) mostTasks (second (leb 1 (c .tasks)) (leb (c .tasks) mostTasks) g);
+      few-semaphores = leb-true (c .semaphores) mostSemaphores (second (leb 1 (c .tasks) && leb (c .tasks) mostTasks) (leb (c .semaphores) mostSemaphores) e);
+      few-cells = leb-true (c .cells) mostCells (second (leb 1 (c .tasks) && leb (c .tasks) mostTasks && leb (c .semaphores) mostSemaphores) (leb (c .cells) mostCells) d);
+      few-records = leb-true n mostEvents (second (leb 1 (c .tasks) && leb (c .tasks) mostTasks && leb (c .semaphores) mostSemaphores && leb (c .cells) mostCells) (leb n mostEvents) h);
     }
 
 -- all that the checks of a file say

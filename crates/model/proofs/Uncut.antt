@@ -14,7 +14,7 @@ use Rattle.model.specs.declared.Refusal.{Refusal}
 use Rattle.model.specs.Refusals.{numberOf, recordOf}
 use Rattle.model.specs.Recording.{Recording, size, tasks, cells, objectOf}
 use Rattle.model.specs.File.{recordingOf}
-use Rattle.model.specs.Reading.{fileCheck}
+use Rattle.model.specs.Reading.{fileCheck, mostCells, mostEvents}
 use Rattle.model.specs.Passes.{run, safeVectors}
 use Rattle.model.specs.Recorded.{recorded}
 use Rattle.model.specs.Pairs.{Entry, listed}
@@ -94,7 +94,7 @@ lines-length E (p ∷ l) h =
     let y = lines-length E l (λ q m. h q (List·Memᴰ·tail m)) in
     simp length-append (omega arith)
 
-listed-length : (E : Recording) → size E ≤ 1024 → cells E ≤ 1024 → (budget : ℕ) (p : Entry) → List·Memᴰ p (listed E budget) → length (entryText E p) ≤ 25
+listed-length : (E : Recording) → size E ≤ mostEvents → cells E ≤ mostCells → (budget : ℕ) (p : Entry) → List·Memᴰ p (listed E budget) → length (entryText E p) ≤ 25
 unfolding entryText listed
 listed-length E n c budget p m =
     let r = entry-of E (safeVectors E budget) (recorded E) p m in
@@ -104,7 +104,7 @@ listed-length E n c budget p m =
     subst (λ (q : Entry). length (entryLine (objectOf E (q .first)) (q .first) (q .second) (q .mark)) ≤ 25) (sym (r .same))
     (entry-length (objectOf E (r .a)) (r .a) (r .e) _ (omega arith) (omega arith) (omega arith))
 
-text-length : (E : Recording) → size E ≤ 1024 → cells E ≤ 1024 → (budget : ℕ) → length (resultText E budget) ≤ 122 + 25 * length (listed E budget)
+text-length : (E : Recording) → size E ≤ mostEvents → cells E ≤ mostCells → (budget : ℕ) → length (resultText E budget) ≤ 122 + 25 * length (listed E budget)
 unfolding resultText
 text-length E n c budget =
     let x = result-length (size E) (tasks E) (run E budget .passes) (run E budget .settled) (length (listed E budget)) in
