@@ -7,7 +7,7 @@ use lib.ListN.{length, take, drop}
 use Rattle.model.specs.declared.Counts.{Counts}
 use Rattle.model.specs.declared.Analysis.{Analysis}
 use Rattle.model.specs.declared.Answer.{Answer}
-use Rattle.model.specs.Recording.{size}
+use Rattle.model.specs.Recording.{Recording, size}
 use Rattle.model.specs.File.{recordingBy}
 use Rattle.model.specs.Vectors.{Vectors}
 use Rattle.model.specs.Analysing.{analysisOf, workAfterAnalysing, listAfterAnalysing}
@@ -35,6 +35,10 @@ safeIn s c work = vectorsIn s c (take (numbers s c) work)
 
 abbrev pub recordedIn : List ℕ → Counts → List ℕ → Vectors
 recordedIn s c work = vectorsIn s c (take (numbers s c) (drop (numbers s c) work))
+
+-- a definition over a recording, its safe and its recorded vectors, at the records and work numbers that are lent
+abbrev pub inWork : {A : Type 0} → (Recording → Vectors → Vectors → A) → List ℕ → Counts → List ℕ → A
+inWork f s c work = f (recordingBy s c) (safeIn s c work) (recordedIn s c work)
 
 -- analysing the file f with the budget b answers a, and leaves w′ in the work numbers w and l′ in the list l
 pub record Analysed (f : List ℕ) (b : ℕ) (w l : List ℕ) (a : Analysis) (w′ l′ : List ℕ) : Type 0 where

@@ -10,7 +10,7 @@ ghost use Rattle.model.specs.Question.{relationBy, twoEvents, answerOf, workAft
 ghost use Rattle.passes.specs.Lent.{Numbered};
 ghost use Rattle.pairs.specs.Lent.{WrittenList};
 ghost use Rattle.events.specs.Kept.{Positions};
-ghost use Rattle.analysis.specs.Lent.{Ready, numbers, Roomy, safeIn, recordedIn, Analysed, Asked};
+ghost use Rattle.analysis.specs.Lent.{Ready, numbers, Roomy, inWork, Analysed, Asked};
 use model::Analysis;
 use model::Answer;
 use model::Counts;
@@ -73,7 +73,7 @@ fn list_pairs(
     list: &mut [u16],
 ) -> Listed
     requires { ⌜ Ready (now records) counts × Roomy (now records) counts (now work) × Positions (eventsOf (now records)) (now positions) ⌝ }
-    ensures { λ r. ⌜ WrittenList (entries (recordingBy (now (records .entry)) counts) (safeIn (now (records .entry)) counts (now (work .entry))) (recordedIn (now (records .entry)) counts (now (work .entry)))) (now (list .entry)) (now (list .exit)) (r .fits) (r .pairs) ⌝ }
+    ensures { λ r. ⌜ WrittenList (inWork entries (now (records .entry)) counts (now (work .entry))) (now (list .entry)) (now (list .exit)) (r .fits) (r .pairs) ⌝ }
 {
     let half = numbers(records, counts);
     let end = 2 * half;
@@ -98,7 +98,7 @@ fn relate(
 ) -> Relation
     requires { ⌜ Ready (now records) counts × Roomy (now records) counts (now work) × Positions (eventsOf (now records)) (now positions) ⌝ }
     requires { ⌜ Numbered (now records) a × Numbered (now records) b ⌝ }
-    ensures { λ r. ⌜ r ≡ relationBy (recordingBy (now (records .entry)) counts) (safeIn (now (records .entry)) counts (now (work .entry))) (recordedIn (now (records .entry)) counts (now (work .entry))) a b ⌝ }
+    ensures { λ r. ⌜ r ≡ inWork relationBy (now (records .entry)) counts (now (work .entry)) a b ⌝ }
 {
     let half = numbers(records, counts);
     let end = 2 * half;

@@ -17,9 +17,13 @@ use Rattle.model.specs.Reading.{mostSemaphores, mostEvents}
 abbrev pub vectorsIn : List ℕ → Counts → List ℕ → Vectors
 vectorsIn s c v = chunks (size (recordingBy s c)) (c .tasks) v
 
+-- a definition over a recording and its vectors, at those that are lent
+abbrev pub over : {A : Type 0} → (Recording → Vectors → A) → List ℕ → Counts → List ℕ → A
+over f s c v = f (recordingBy s c) (vectorsIn s c v)
+
 -- the lent numbers v have become v′: f has been applied to their vectors
 abbrev pub Becomes : (Recording → Vectors → Vectors) → List ℕ → Counts → List ℕ → List ℕ → Type 0
-Becomes f s c v v′ = vectorsIn s c v′ ≡ f (recordingBy s c) (vectorsIn s c v)
+Becomes f s c v v′ = vectorsIn s c v′ ≡ over f s c v
 
 -- they are as many as the vectors have
 abbrev pub Fitting : List ℕ → Counts → List ℕ → Type 0

@@ -5,14 +5,13 @@ ghost use mathlib.Core.List.{_++_};
 ghost use lib.Dec.{eqb};
 ghost use lib.ListN.{length, drop};
 ghost use lib.Seq.{sets};
-ghost use Rattle.model.specs.declared.Counts.{Counts};
 ghost use Rattle.model.specs.Recording.{size, kindOf, isOn, eventIn, join};
 ghost use Rattle.model.specs.File.{eventsOf, recordingBy};
 ghost use Rattle.model.specs.Vectors.{flat, start, ordered};
 ghost use Rattle.model.specs.Passes.{joinSources, stepOne, kOf, pass, run};
 ghost use Rattle.model.specs.Recorded.{matched, recorded};
 ghost use Rattle.vectors.specs.Rows.{Rose};
-ghost use Rattle.passes.specs.Lent.{vectorsIn, Becomes, Fitting, Numbered, Records, Placed, Inside, raisedFound};
+ghost use Rattle.passes.specs.Lent.{vectorsIn, over, Becomes, Fitting, Numbered, Records, Placed, Inside, raisedFound};
 ghost use Rattle.events.specs.Kept.{Below, Before};
 ghost use Rattle.passes.specs.Matching.{Matching};
 ghost use Rattle.passes.specs.Steps.{firstRow, taken, waitBefore, candidate, candidatesOn, waited, stepTwo, raisedEvent, recordedEvent};
@@ -125,7 +124,7 @@ fn is_wait_before(
 ) -> bool
     requires { ⌜ Placed (now records) counts (now positions) × Fitting (now records) counts (now v) ⌝ }
     requires { ⌜ Numbered (now records) w × Numbered (now records) e ⌝ }
-    ensures { λ r. ⌜ r ≡ waitBefore (recordingBy (now (records .entry)) counts) (vectorsIn (now (records .entry)) counts (now (v .entry))) e s w ⌝ }
+    ensures { λ r. ⌜ r ≡ over waitBefore (now (records .entry)) counts (now (v .entry)) e s w ⌝ }
 {
     if is_on(records, w, WAIT, s) {
         return ordered(records, counts, positions, v, w, e);
@@ -145,7 +144,7 @@ fn is_candidate(
 ) -> bool
     requires { ⌜ Placed (now records) counts (now positions) × Fitting (now records) counts (now v) ⌝ }
     requires { ⌜ Numbered (now records) a × Numbered (now records) e ⌝ }
-    ensures { λ r. ⌜ r ≡ candidate (recordingBy (now (records .entry)) counts) (vectorsIn (now (records .entry)) counts (now (v .entry))) e s a ⌝ }
+    ensures { λ r. ⌜ r ≡ over candidate (now (records .entry)) counts (now (v .entry)) e s a ⌝ }
 {
     if is_on(records, a, SIGNAL, s) {
         return !ordered(records, counts, positions, v, e, a);
@@ -156,7 +155,7 @@ fn is_candidate(
 // k of a wait e on semaphore s: 1 plus the waits on s ordered before e.
 fn needed(records: &[u8], counts: Counts, positions: &[u16], v: &[u16], e: usize, s: u16) -> u16
     requires { ⌜ Placed (now records) counts (now positions) × Fitting (now records) counts (now v) × Numbered (now records) e ⌝ }
-    ensures { λ r. ⌜ r ≡ kOf (recordingBy (now (records .entry)) counts) (vectorsIn (now (records .entry)) counts (now (v .entry))) e s ⌝ }
+    ensures { λ r. ⌜ r ≡ over kOf (now (records .entry)) counts (now (v .entry)) e s ⌝ }
 {
     let n = records.len() / 4;
     let mut k: u16 = 1;
@@ -182,8 +181,8 @@ fn candidates(
 ) -> usize
     requires { ⌜ Placed (now records) counts (now positions) × Fitting (now records) counts (now v) × Numbered (now records) e ⌝ }
     requires { ⌜ mostEvents ≤ length (now out) ⌝ }
-    ensures { λ r. ⌜ r ≡ length (candidatesOn (recordingBy (now (records .entry)) counts) (vectorsIn (now (records .entry)) counts (now (v .entry))) e s) ⌝ }
-    ensures { λ r. ⌜ now (out .exit) ≡ candidatesOn (recordingBy (now (records .entry)) counts) (vectorsIn (now (records .entry)) counts (now (v .entry))) e s
+    ensures { λ r. ⌜ r ≡ length (over candidatesOn (now (records .entry)) counts (now (v .entry)) e s) ⌝ }
+    ensures { λ r. ⌜ now (out .exit) ≡ over candidatesOn (now (records .entry)) counts (now (v .entry)) e s
         ++ drop r (now (out .entry)) ⌝ }
 {
     let n = records.len() / 4;
