@@ -1,9 +1,9 @@
 -- What stands on the list, and that a larger budget leaves no more on it.
 -- Assumes nothing.
 use Prim.Native.Nat.{ℕ, zero, suc, _<_}
-use mathlib.Core.Path.{_≡_, refl, sym, ap, ap₂, subst, _∙_}
+use mathlib.Core.Path.{_≡_, refl, sym, ap, subst, _∙_}
 use mathlib.Core.Logic.{_⊎_, inl, inr}
-use mathlib.Core.Bool.{Bool, true, false, cond, not, _&&_, and-comm, or-comm}
+use mathlib.Core.Bool.{Bool, true, false, cond, not, and-comm, or-comm}
 use mathlib.Core.List.{List, [], _∷_, List·Memᴰ, List·Memᴰ·head, List·Memᴰ·not-nil, List·Memᴰ·eq-of-singleton, List·Memᴰ·append-cases, Memᴰ·append-left, Memᴰ·append-right}
 use native.Mathlib.Nat.{le-refl, le-trans, not-suc-le-zero}
 use native.Mathlib.Omega.{arith}
@@ -14,6 +14,7 @@ use Rattle.model.specs.Numbers.{each}
 use Rattle.model.specs.Recording.{Recording, size, cells, event, taskOf, objectOf, classOf, namesOf, read, write}
 use Rattle.model.specs.Vectors.{Vectors, number, position, ordered, unordered}
 use Rattle.model.specs.Pairs.{isAccess, isWrite, conflict, racePair, Entry, entry, entriesOf, cellEntries, entries}
+use Rattle.model.specs.Rows.Conflicts.{Symmetric}
 use Rattle.model.proofs.Tests.{cases, clash, fails, of-not, to-not, both, first, second, all-three, either, last-or-lower, le-leb, leb-true, ltb-true, eqb-true, eqb-false, eq-eqb, ne-eqb}
 use Rattle.model.proofs.Climb.{AtMost}
 
@@ -113,13 +114,10 @@ eqb-turned : (m n : ℕ) → eqb m n ≡ eqb n m
 eqb-turned m n =
     cases (eqb m n) (λ t. t ∙ sym (eq-eqb n m (sym (eqb-true m n t)))) (λ t. t ∙ sym (ne-eqb n m (λ q. eqb-false m n t (sym q))))
 
-pub conflict-turned : (v w : Event) → conflict v w ≡ conflict w v
+pub symmetric : Symmetric
 unfolding conflict
-conflict-turned v w =
-    ap₂ (λ (x y : Bool). x && y)
-    (ap₂ (λ (x y : Bool). x && not y)
-    (ap₂ (λ (x y : Bool). x && y) (and-comm (isAccess v) (isAccess w)) (eqb-turned (v .object) (w .object))) (eqb-turned (v .task) (w .task)))
-    (or-comm (isWrite v) (isWrite w))
+symmetric v w =
+    rw (and-comm (isAccess v) (isAccess w), eqb-turned (v .object) (w .object), eqb-turned (v .task) (w .task), or-comm (isWrite v) (isWrite w))
 
 pub unordered-turned : (l : List Event) (X : Vectors) (a b : ℕ) → unordered l X a b ≡ unordered l X b a
 unfolding unordered

@@ -14,7 +14,7 @@ use Rattle.model.specs.Pairs.{conflict, mark, OnList}
 use Rattle.model.specs.Question.{relationOf}
 use Rattle.model.specs.Questions.{QuestionPromise, QuestionPromised}
 use Rattle.model.proofs.Tests.{compared}
-use Rattle.model.proofs.Listed.{pair-apart, conflict-turned, unordered-turned}
+use Rattle.model.proofs.Listed.{pair-apart, symmetric, unordered-turned}
 use Rattle.model.proofs.Promise.{ordered-always, put, both-ways, entry-race}
 use Rattle.model.proofs.Files.{accepted-recording}
 
@@ -72,7 +72,7 @@ module _ (E : Recording) (acc : Accepted E) (a b : ℕ) (k : a < size E) (l : b 
       (λ more.
       turned
       (subst (OnList E b a budget) (ap marked (unordered-turned (E .events) (recorded E) b a ∙ u))
-      (put E acc budget b a more k (conflict-turned (event E b) (event E a) ∙ t) q p)))
+      (put E acc budget b a more k (symmetric (event E b) (event E a) ∙ t) q p)))
     where
       turned : OnList E b a budget (marked v) → OnList E a b budget (marked v)
       turned (inl m) = inr m

@@ -1,17 +1,12 @@
--- Each row computes; that conflict is symmetric is by the laws of `&&` and `||`.
+-- The rows: each computes.
 -- Assumes nothing.
-use Prim.Native.Nat.{ℕ}
-use mathlib.Core.Path.{_≡_, refl, sym, _∙_}
-use mathlib.Core.Bool.{and-comm, or-comm}
-use lib.Dec.{eqb}
-use Rattle.model.specs.declared.Event.{Event}
+use mathlib.Core.Path.{refl}
 use Rattle.model.specs.declared.Refusal.{Refusal}
 use Rattle.model.specs.declared.Reading.{Reading}
 use Rattle.model.specs.declared.Analysis.{Analysis}
 use Rattle.model.specs.declared.Relation.{Relation}
 use Rattle.model.specs.declared.Answer.{Answer}
 use Rattle.model.specs.declared.Written.{Written}
-use Rattle.model.specs.Pairs.{isWrite, isAccess, conflict}
 use Rattle.model.specs.Rows.Faults.{Faults}
 use Rattle.model.specs.Rows.Parts.{Parts}
 use Rattle.model.specs.Rows.Raised.{Raised}
@@ -20,7 +15,6 @@ use Rattle.model.specs.Rows.Table.{Table}
 use Rattle.model.specs.Rows.Lent.{Lent}
 use Rattle.model.specs.Rows.Printed.{Printed}
 use Rattle.model.specs.Rows.Beyond.{Beyond}
-use Rattle.model.proofs.Tests.{cases, eqb-true, eqb-false, eq-eqb, ne-eqb}
 use Rattle.model.proofs.Computing.{rows, refusal}
 
 pub faults : Faults
@@ -94,19 +88,9 @@ raised = record {
   slow-recorded = refl;
 }
 
-eqb-sym : (m n : ℕ) → eqb m n ≡ eqb n m
-eqb-sym m n =
-    cases (eqb m n) (λ t. t ∙ sym (eq-eqb n m (sym (eqb-true m n t)))) (λ t. t ∙ sym (ne-eqb n m (λ q. eqb-false m n t (sym q))))
-
-symmetric : (v w : Event) → conflict v w ≡ conflict w v
-unfolding conflict
-symmetric v w =
-    rw (and-comm (isAccess v) (isAccess w), eqb-sym (v .object) (w .object), eqb-sym (v .task) (w .task), or-comm (isWrite v) (isWrite w))
-
 pub conflicts : Conflicts
 unfolding rows
 conflicts = record {
-  symmetric = symmetric;
   write-write = refl;
   read-write = refl;
   write-read = refl;

@@ -1,5 +1,5 @@
--- Conflicts and the order of the list (document 01, List and marks). Proved as `conflicts` in proofs/Rows.antt.
--- Assumes nothing.
+-- Conflicts and the order of the list (document 01, List and marks). Proved as `symmetric` in proofs/Listed.antt and
+-- `conflicts` in proofs/Rows.antt. Assumes nothing.
 use Prim.Native.Nat.{ℕ}
 use mathlib.Core.Path.{_≡_}
 use mathlib.Core.Bool.{true, false}
@@ -13,8 +13,11 @@ use Rattle.model.specs.Rows.Starred.{of, W, file, Lists}
 abbrev pub eventBy : ℕ → ℕ → ℕ → Event
 eventBy k t x = record { task = t; kind = k; object = x }
 
+-- whether two events conflict does not hang on which of them is recorded first
+abbrev pub Symmetric : Type 0
+Symmetric = (v w : Event) → conflict v w ≡ conflict w v
+
 pub record Conflicts : Type 0 where
-  pub symmetric : (v w : Event) → conflict v w ≡ conflict w v
   -- two accesses to one cell, from different tasks, at least one writing
   pub write-write : conflict (eventBy write 0 0) (eventBy write 1 0) ≡ true
   pub read-write : conflict (eventBy read 0 0) (eventBy write 1 0) ≡ true

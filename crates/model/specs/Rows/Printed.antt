@@ -15,9 +15,9 @@ use Rattle.model.specs.Rows.Table.{lent}
 abbrev pub G-raised : List ℕ
 G-raised = 1 ∷ 0 ∷ 2 ∷ 0 ∷ 2 ∷ 1 ∷ 3 ∷ 0 ∷ 4 ∷ 1 ∷ 5 ∷ 1 ∷ []
 
--- the program prints this text of a file, with 64 work numbers and 9 list numbers lent
+-- the program, with 32,768 zeroed work numbers and a list of 8,192 entries, prints this text of a file
 abbrev pub Prints : List ℕ → String → Type 0
-Prints f text = reportOf f (lent 64) (lent 9) ≡ bytes text
+Prints f text = reportOf f (replicate 32768 0) (replicate 24576 0) ≡ bytes text
 
 pub record Printed : Type 0 where
   pub g : Prints G "events 6 tasks 2 passes 2 settled yes pairs 1\ncell 0 2 3 sure\n"
