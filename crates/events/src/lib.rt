@@ -47,14 +47,13 @@ pub fn event_at(records: &[u8], e: usize) -> Event
     }
 }
 
-// Whether the event has this kind and this object.
-fn is_on(v: Event, kind: u8, object: u16) -> bool
-    ensures { λ r. ⌜ r ≡ isOn kind object v ⌝ }
+// Whether event e has this kind and this object.
+pub fn is_on(records: &[u8], e: usize, kind: u8, object: u16) -> bool
+    requires { ⌜ 4 * e + 3 < length (now records) ⌝ }
+    ensures { λ r. ⌜ r ≡ isOn kind object (eventIn (eventsOf (now (records .entry))) e) ⌝ }
 {
-    if v.kind == kind {
-        return v.object == object;
-    }
-    false
+    let v = event_at(records, e);
+    (v.kind == kind) & (v.object == object)
 }
 
 // The last of the first n events that is this task's, found by a call on the record one lower.
@@ -81,7 +80,7 @@ pub fn last_on(records: &[u8], n: usize, kind: u8, object: u16) -> Found
     let mut i = n;
     while 0 < i {
         i -= 1;
-        if is_on(event_at(records, i), kind, object) {
+        if is_on(records, i, kind, object) {
             return Found::At(i);
         }
     }

@@ -1,6 +1,6 @@
 -- What stands on the list, and that a larger budget leaves no more on it.
 -- Assumes nothing.
-use Prim.Native.Nat.{ℕ, zero, suc, _<_}
+use Prim.Native.Nat.{ℕ, zero, suc, _*_, _<_}
 use mathlib.Core.Path.{_≡_, refl, sym, ap, subst, _∙_}
 use mathlib.Core.Logic.{_⊎_, inl, inr}
 use mathlib.Core.Bool.{Bool, true, false, cond, not, and-comm, or-comm}
@@ -8,12 +8,13 @@ use mathlib.Core.List.{List, [], _∷_, List·Memᴰ, List·Memᴰ·head, List·
 use native.Mathlib.Nat.{le-refl, le-trans, not-suc-le-zero}
 use native.Mathlib.Omega.{arith}
 use lib.Dec.{ltb, eqb}
+use lib.ListN.{length}
 use Rattle.model.specs.declared.Event.{Event}
 use Rattle.model.specs.declared.Counts.{Counts}
 use Rattle.model.specs.Numbers.{each}
 use Rattle.model.specs.Recording.{Recording, size, cells, event, taskOf, objectOf, classOf, namesOf, read, write}
 use Rattle.model.specs.Vectors.{Vectors, number, position, ordered, unordered}
-use Rattle.model.specs.Pairs.{isAccess, isWrite, conflict, racePair, Entry, entry, entriesOf, cellEntries, entries}
+use Rattle.model.specs.Pairs.{isAccess, isWrite, conflict, racePair, Entry, entry, entriesOf, cellEntries, entries, entryNumbers}
 use Rattle.model.specs.Rows.Conflicts.{Symmetric}
 use Rattle.model.proofs.Tests.{cases, clash, fails, of-not, to-not, both, first, second, all-three, either, last-or-lower, le-leb, leb-true, ltb-true, eqb-true, eqb-false, eq-eqb, ne-eqb}
 use Rattle.model.proofs.Climb.{AtMost}
@@ -131,3 +132,9 @@ conflict-cell c v w h = go (either (eqb (v .kind) read) (isWrite v) (all-three (
     go : (eqb (v .kind) read ≡ true) ⊎ (isWrite v ≡ true) → namesOf c (classOf (v .kind)) ≡ c .cells
     go (inl t) = ap (λ (k : ℕ). namesOf c (classOf k)) (eqb-true (v .kind) read t)
     go (inr t) = ap (λ (k : ℕ). namesOf c (classOf k)) (eqb-true (v .kind) write t)
+
+-- an entry is three numbers
+pub numbers-length : (l : List Entry) → length (entryNumbers l) ≡ 3 * length l
+unfolding entryNumbers
+numbers-length [] = refl
+numbers-length (p ∷ l) = omega (arith, numbers-length l)

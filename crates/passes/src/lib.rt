@@ -5,7 +5,7 @@ ghost use mathlib.Core.List.{_++_};
 ghost use lib.Dec.{eqb};
 ghost use lib.ListN.{length, drop};
 ghost use lib.Seq.{sets};
-ghost use Rattle.model.specs.Recording.{size, kindOf, isOn, eventIn, join};
+ghost use Rattle.model.specs.Recording.{size, kindOf, join};
 ghost use Rattle.model.specs.File.{eventsOf, recordingBy};
 ghost use Rattle.model.specs.Vectors.{flat, start, ordered};
 ghost use Rattle.model.specs.Passes.{joinSources, stepOne, kOf, pass, run};
@@ -30,15 +30,6 @@ use model::WAIT;
 pub struct Outcome {
     pub passes: u32,
     pub settled: bool,
-}
-
-// Whether event a has this kind and this object.
-fn is_on(records: &[u8], a: usize, kind: u8, object: u16) -> bool
-    requires { ⌜ 4 * a + 3 < length (now records) ⌝ }
-    ensures { λ r. ⌜ r ≡ isOn kind object (eventIn (eventsOf (now (records .entry))) a) ⌝ }
-{
-    let v = events::event_at(records, a);
-    (v.kind == kind) & (v.object == object)
 }
 
 // Whether the vectors order event a before event b.
@@ -126,7 +117,7 @@ fn is_wait_before(
     requires { ⌜ Numbered (now records) w × Numbered (now records) e ⌝ }
     ensures { λ r. ⌜ r ≡ over waitBefore (now (records .entry)) counts (now (v .entry)) e s w ⌝ }
 {
-    if is_on(records, w, WAIT, s) {
+    if events::is_on(records, w, WAIT, s) {
         return ordered(records, counts, positions, v, w, e);
     }
     false
@@ -146,7 +137,7 @@ fn is_candidate(
     requires { ⌜ Numbered (now records) a × Numbered (now records) e ⌝ }
     ensures { λ r. ⌜ r ≡ over candidate (now (records .entry)) counts (now (v .entry)) e s a ⌝ }
 {
-    if is_on(records, a, SIGNAL, s) {
+    if events::is_on(records, a, SIGNAL, s) {
         return !ordered(records, counts, positions, v, e, a);
     }
     false

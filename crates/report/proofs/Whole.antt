@@ -2,7 +2,7 @@
 -- Assumes nothing.
 use Prim.Native.Nat.{ℕ, _*_, _/_, _≤_, _<_}
 use mathlib.Core.Path.{_≡_, refl, sym, ap, _∙_}
-use mathlib.Core.List.{List, [], _∷_, _++_}
+use mathlib.Core.List.{List, _++_}
 use native.Mathlib.Omega.{arith}
 use lib.ListN.{length, drop, length-append}
 use Rattle.model.specs.declared.Check.{Check}
@@ -12,9 +12,10 @@ use Rattle.model.specs.Recording.{size, tasks}
 use Rattle.model.specs.File.{trailerOf, recordBytes, recordingOf}
 use Rattle.model.specs.Reading.{fileCheck, readingOf, recordsOf, mostEvents}
 use Rattle.model.specs.Passes.{run}
-use Rattle.model.specs.Pairs.{Entry, listed, entryNumbers}
+use Rattle.model.specs.Pairs.{listed, entryNumbers}
 use Rattle.model.specs.Analysing.{workCheck, analysisCheck, analysisOf, workAfterAnalysing, listAfterAnalysing}
 use Rattle.model.proofs.Tests.{le-leb, lt-ltb, le-ltb}
+use Rattle.model.proofs.Listed.{numbers-length}
 use Rattle.model.proofs.Uncut.{analysis-passed}
 use Rattle.model.proofs.Files.{sound, events-length, size-records}
 use Rattle.model.specs.Text.{bytes}
@@ -24,11 +25,6 @@ use Rattle.model.specs.Report.{resultLine, resultText, budgetOf, reportBy, most
 use Rattle.printing.specs.Answer.{budgetIn, tasksIn, Holds, answerText}
 use Rattle.printing.proofs.Putting.{put-laid}
 use Rattle.printing.proofs.Listing.{each-entry}
-
-numbers-length : (l : List Entry) → length (entryNumbers l) ≡ 3 * length l
-unfolding entryNumbers
-numbers-length [] = refl
-numbers-length (p ∷ l) = let e = numbers-length l in omega arith
 
 module _ (f : List ℕ) where
   -- ---- an accepted file: its records, events and tasks

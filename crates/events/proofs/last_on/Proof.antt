@@ -1,8 +1,7 @@
 -- `events::last_on` meets its contract. The invariant: the last among the first i events is the last among all n. The measure is i. Assumes nothing.
-use mathlib.Core.Path.{_≡_, refl, ap, _∙_}
+use mathlib.Core.Path.{_≡_, refl, _∙_}
 use Prim.Native.Nat.{_≤_}
 use native.Mathlib.Omega.{arith}
-use borrow.Author.Needs.{needs}
 use Rattle.model.specs.Numbers.{lastOf}
 use Rattle.model.specs.Recording.{isOn, eventIn}
 use Rattle.model.specs.File.{eventsOf}
@@ -22,17 +21,15 @@ loop-holds c = (omega arith, refl)
 
 returns : tie.Need-returns Inv-loop μ-loop
 returns c =
-    let a = c .before .before .before .before .before .before .args in
-    let k = c .before .before .before .before .loop in
-    last-here _ (k .i) _ _ (omega arith) (c .before .is-on .ensures ∙ ap (isOn (a .kind) (a .object)) (c .before .before .event-at .ensures)) (c .if1 .taken)
+    let k = c .before .before .before .loop in
+    last-here _ (k .i) _ _ (omega arith) (c .before .is-on .ensures) (c .if1 .taken)
     ∙ k .inv .1
 
 loop-again : tie.Need-loop-again Inv-loop μ-loop
 loop-again c =
-    let a = c .before .before .before .before .before .before .args in
-    let k = c .before .before .before .before .loop in (
+    let k = c .before .before .before .loop in (
       omega arith,
-      last-lower _ (k .i) _ _ (omega arith) (c .before .is-on .ensures ∙ ap (isOn (a .kind) (a .object)) (c .before .before .event-at .ensures)) (c .if1 .left)
+      last-lower _ (k .i) _ _ (omega arith) (c .before .is-on .ensures) (c .if1 .left)
           ∙ k .inv .1,
     )
 
@@ -48,7 +45,6 @@ last-on-spec =
     loop-holds
     (λ c. omega arith)
     (λ c κs. omega arith)
-    (λ c κs. search needs)
     returns
     (λ c. omega arith)
     loop-again
