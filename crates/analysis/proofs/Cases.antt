@@ -2,7 +2,7 @@
 -- Assumes nothing.
 use mathlib.Core.Path.{_≡_, sym, ap, ap₂, subst, _∙_}
 use mathlib.Core.Bool.{Bool, true, false, cond, not}
-use mathlib.Core.List.{List}
+use mathlib.Core.List.{List, []}
 use Prim.Native.Nat.{ℕ, _*_}
 use lib.ListN.{length}
 use lib.Dec.{eqb, ltb}
@@ -13,7 +13,7 @@ use Rattle.model.specs.declared.Analysis.{Analysis}
 use Rattle.model.specs.declared.Answer.{Answer}
 use Rattle.model.specs.declared.Relation.{Relation}
 use Rattle.model.specs.Recording.{Recording, size}
-use Rattle.model.specs.File.{recordBytes, recordingBy, recordingOf}
+use Rattle.model.specs.File.{recordBytes, levelBytes, recordingBy, recordingOf}
 use Rattle.model.specs.Reading.{readingOf}
 use Rattle.model.specs.Passes.{safeVectors, passesMade, isSettled}
 use Rattle.model.specs.Vectors.{Vectors}
@@ -22,6 +22,7 @@ use Rattle.model.specs.Pairs.{Entry, entries, listed}
 use Rattle.model.specs.Analysing.{workFits, filled}
 use Rattle.model.specs.Question.{relationBy, relationOf, twoEvents}
 use Rattle.model.proofs.Tests.{all-three, leb-true, ltb-true}
+use Rattle.model.proofs.Levels.{entries-levels}
 use Rattle.passes.specs.Lent.{Numbered}
 use Rattle.pairs.specs.Lent.{WrittenList}
 use Rattle.analysis.specs.Lent.{numbers, Roomy, safeIn, recordedIn, Analysed, Asked}
@@ -29,12 +30,16 @@ use Rattle.analysis.proofs.Parts.{safe-filled, recorded-filled}
 use Rattle.analysis.proofs.Accepted.{passed, the-recording}
 use Rattle.analysis.proofs.Answers.{refused-work, refused-list, finished, asked-event, asked-work, related}
 
-module _ (f : List ℕ) (h : Trailer) (q : readingOf f ≡ Reading.Accepted h) (s : List ℕ) (e : s ≡ recordBytes f h) (b : ℕ) (w : List ℕ) where
+module _ (f : List ℕ) (h : Trailer) (q : readingOf f ≡ Reading.Accepted h) (s : List ℕ) (e : s ≡ recordBytes f h) (v : List ℕ) (g : v ≡ levelBytes f h) (b : ℕ) (w : List ℕ) where
   abbrev E : Recording
-  E = recordingBy s (h .counts)
+  E = recordingBy s (h .counts) v
+
+  -- for what reads no levels
+  abbrev bare : Recording
+  bare = recordingBy s (h .counts) []
 
   same : E ≡ recordingOf f
-  same = the-recording f h q s e
+  same = the-recording f h q s e v g
 
   fits : (x : Bool) → workFits E w ≡ x → workFits (recordingOf f) w ≡ x
   fits x p = sym (ap (λ (F : Recording). workFits F w) same) ∙ p
@@ -52,19 +57,19 @@ module _ (f : List ℕ) (h : Trailer) (q : readingOf f ≡ Reading.Accepted h) (
     now-filled = k ∙ ap (λ (F : Recording). filled F b w) same
 
     safe : safeIn s (h .counts) w′ ≡ safeVectors E b
-    safe = ap (λ (v : List ℕ). safeIn s (h .counts) v) k ∙ safe-filled s (h .counts) b w
+    safe = ap (safeIn s (h .counts)) k ∙ safe-filled s (h .counts) v b w
 
     behind : recordedIn s (h .counts) w′ ≡ recorded E
-    behind = ap (λ (v : List ℕ). recordedIn s (h .counts) v) k ∙ recorded-filled s (h .counts) b w
+    behind = ap (recordedIn s (h .counts)) k ∙ recorded-filled s (h .counts) v b w
 
     module _ (l l′ : List ℕ) (n : ℕ) where
-      listing : (t : Bool) → WrittenList (entries E (safeIn s (h .counts) w′) (recordedIn s (h .counts) w′)) l l′ t n → WrittenList (listed (recordingOf f) b) l l′ t n
+      listing : (t : Bool) → WrittenList (entries bare (safeIn s (h .counts) w′) (recordedIn s (h .counts) w′)) l l′ t n → WrittenList (listed (recordingOf f) b) l l′ t n
       unfolding listed
       listing t o =
-          subst (λ (es : List Entry). WrittenList es l l′ t n) (ap₂ (entries E) safe behind ∙ ap (λ (F : Recording). listed F b) same) o
+          subst (λ (es : List Entry). WrittenList es l l′ t n) (ap₂ (entries bare) safe behind ∙ entries-levels s (h .counts) v (safeVectors E b) (recorded E) ∙ ap (λ (F : Recording). listed F b) same) o
 
       -- done where the entries fit, and else 10
-      pub ended : (m : ℕ) (x : Bool) → m ≡ passesMade E b → x ≡ isSettled E b → {y : Bool} → WrittenList (entries E (safeIn s (h .counts) w′) (recordedIn s (h .counts) w′)) l l′ y n
+      pub ended : (m : ℕ) (x : Bool) → m ≡ passesMade E b → x ≡ isSettled E b → {y : Bool} → WrittenList (entries bare (safeIn s (h .counts) w′) (recordedIn s (h .counts) w′)) l l′ y n
           → (t : Bool) → y ≡ t → Analysed f b w l (cond t (Analysis.Done m x n) (Analysis.Refused (Refusal.List n))) w′ l′
       ended m x u v o true z =
           finished f b w l (passed f h q) (fits true p) w′ l′ m n x now-filled (listing true (rw z at o)) (u ∙ ap (λ (F : Recording). passesMade F b) same)
@@ -87,7 +92,7 @@ module _ (f : List ℕ) (h : Trailer) (q : readingOf f ≡ Reading.Accepted h) (
     no-work t p = asked-work f x y b w (passed f h q) (two true t) (fits false p)
 
     pub answered : twoEvents E x y ≡ true → (p : workFits E w ≡ true) (w′ : List ℕ) (k : w′ ≡ filled E b w) (r : Relation)
-        → r ≡ relationBy E (safeIn s (h .counts) w′) (recordedIn s (h .counts) w′) x y → Asked f x y b w (Answer.Related r) w′
+        → r ≡ relationBy bare (safeIn s (h .counts) w′) (recordedIn s (h .counts) w′) x y → Asked f x y b w (Answer.Related r) w′
     unfolding relationOf
     answered t p w′ k r u =
         related f x y b w (passed f h q) (two true t) (fits true p) r w′

@@ -10,7 +10,7 @@ use lib.Seq.{take-all, take-at, drop-at, drop-drop, length-take-le}
 use borrow.Rule.Slice.PartMut.{midOf, putMid}
 use Rattle.model.specs.declared.Counts.{Counts}
 use Rattle.model.specs.Recording.{Recording, size, tasks}
-use Rattle.model.specs.File.{recordingBy}
+use Rattle.model.specs.File.{eventsOf, recordingBy}
 use Rattle.model.specs.Vectors.{Vectors, flat}
 use Rattle.model.specs.Passes.{safeVectors}
 use Rattle.model.specs.Recorded.{recorded}
@@ -23,7 +23,7 @@ use Rattle.analysis.specs.Lent.{Ready, numbers, safeIn, recordedIn}
 
 pub numbers-by : (s : List ℕ) (c : Counts) → Ready s c → (length s / 4 * c .tasks ≡ numbers s c) × (length s / 4 * c .tasks ≤ 16384)
 numbers-by s c r =
-    let e : length s / 4 ≡ size (recordingBy s c) = omega (arith, r .records .whole) in
+    let e : length s / 4 ≡ length (eventsOf s) = omega (arith, r .records .whole) in
     rw e (refl, omega (arith, mul-le-mul-right (c .tasks) (r .records .few), r .tasks))
 
 -- ---- two parts to read
@@ -85,9 +85,9 @@ module _ (n : ℕ) (w p : List ℕ) (k : length p ≡ n) (h : 2 * n ≤ length w
 
 -- ---- the vectors in work numbers that have been filled
 
-module _ (s : List ℕ) (c : Counts) (b : ℕ) (w : List ℕ) where
+module _ (s : List ℕ) (c : Counts) (v : List ℕ) (b : ℕ) (w : List ℕ) where
   abbrev E : Recording
-  E = recordingBy s c
+  E = recordingBy s c v
 
   safe-length : length (flat (safeVectors E b)) ≡ numbers s c
   safe-length = flat-length (size E) (c .tasks) (safeVectors E b) (run-shaped E b)

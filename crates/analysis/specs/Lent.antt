@@ -2,13 +2,13 @@
 -- Assumes nothing.
 use Prim.Native.Nat.{ℕ, _*_, _≤_}
 use mathlib.Core.Path.{_≡_}
-use mathlib.Core.List.{List}
+use mathlib.Core.List.{List, []}
 use lib.ListN.{length, take, drop}
 use Rattle.model.specs.declared.Counts.{Counts}
 use Rattle.model.specs.declared.Analysis.{Analysis}
 use Rattle.model.specs.declared.Answer.{Answer}
-use Rattle.model.specs.Recording.{Recording, size}
-use Rattle.model.specs.File.{recordingBy}
+use Rattle.model.specs.Recording.{Recording}
+use Rattle.model.specs.File.{eventsOf, recordingBy}
 use Rattle.model.specs.Vectors.{Vectors}
 use Rattle.model.specs.Analysing.{analysisOf, workAfterAnalysing, listAfterAnalysing}
 use Rattle.model.specs.Question.{answerOf, workAfterAsking}
@@ -23,7 +23,7 @@ pub record Ready (s : List ℕ) (c : Counts) : Type 0 where
 
 -- N × T, how many numbers the vectors of these records have
 abbrev pub numbers : List ℕ → Counts → ℕ
-numbers s c = size (recordingBy s c) * c .tasks
+numbers s c = length (eventsOf s) * c .tasks
 
 -- there is room for both vectors
 abbrev pub Roomy : List ℕ → Counts → List ℕ → Type 0
@@ -36,9 +36,9 @@ safeIn s c work = vectorsIn s c (take (numbers s c) work)
 abbrev pub recordedIn : List ℕ → Counts → List ℕ → Vectors
 recordedIn s c work = vectorsIn s c (take (numbers s c) (drop (numbers s c) work))
 
--- a definition over a recording, its safe and its recorded vectors, at the records and work numbers that are lent
+-- a definition over a recording, its safe and its recorded vectors, at the records and work numbers that are lent; it reads no levels
 abbrev pub inWork : {A : Type 0} → (Recording → Vectors → Vectors → A) → List ℕ → Counts → List ℕ → A
-inWork f s c work = f (recordingBy s c) (safeIn s c work) (recordedIn s c work)
+inWork f s c work = f (recordingBy s c []) (safeIn s c work) (recordedIn s c work)
 
 -- analysing the file f with the budget b answers a, and leaves w′ in the work numbers w and l′ in the list l
 pub record Analysed (f : List ℕ) (b : ℕ) (w l : List ℕ) (a : Analysis) (w′ l′ : List ℕ) : Type 0 where

@@ -1,5 +1,6 @@
 // Analysing a recording file, and questions about two of its events.
 ghost use mathlib.Core.Path.{_≡_};
+ghost use mathlib.Core.List.{[]};
 ghost use Prim.Native.Nat.{_≤_};
 ghost use Rattle.model.specs.File.{recordingBy, eventsOf};
 ghost use Rattle.model.specs.Reading.{readingOf};
@@ -33,7 +34,7 @@ fn numbers(records: &[u8], counts: Counts) -> usize
 // Whether the work numbers have room for the safe and the recorded vectors.
 fn work_fits(records: &[u8], counts: Counts, work: &[u16]) -> bool
     requires { ⌜ Ready (now records) counts ⌝ }
-    ensures { λ r. ⌜ r ≡ workFits (recordingBy (now (records .entry)) counts) (now (work .entry)) ⌝ }
+    ensures { λ r. ⌜ r ≡ workFits (recordingBy (now (records .entry)) counts []) (now (work .entry)) ⌝ }
 {
     2 * numbers(records, counts) <= work.len()
 }
@@ -42,25 +43,34 @@ fn work_fits(records: &[u8], counts: Counts, work: &[u16]) -> bool
 fn fill(
     records: &[u8],
     counts: Counts,
+    levels: &[u8],
     positions: &[u16; MOST_EVENTS],
     budget: u32,
     work: &mut [u16],
 ) -> passes::Outcome
     requires { ⌜ Ready (now records) counts × Roomy (now records) counts (now work) × Positions (eventsOf (now records)) (now positions) ⌝ }
-    ensures { λ r. ⌜ (r .passes ≡ passesMade (recordingBy (now (records .entry)) counts) budget) × (r .settled ≡ isSettled (recordingBy (now (records .entry)) counts) budget) ⌝ }
-    ensures { λ _. ⌜ now (work .exit) ≡ filled (recordingBy (now (records .entry)) counts) budget (now (work .entry)) ⌝ }
+    ensures { λ r. ⌜ (r .passes ≡ passesMade (recordingBy (now (records .entry)) counts (now (levels .entry))) budget) × (r .settled ≡ isSettled (recordingBy (now (records .entry)) counts (now (levels .entry))) budget) ⌝ }
+    ensures { λ _. ⌜ now (work .exit) ≡ filled (recordingBy (now (records .entry)) counts (now (levels .entry))) budget (now (work .entry)) ⌝ }
 {
     let half = numbers(records, counts);
     let before = events::before_each(records);
     let made = passes::run(
         records,
         counts,
+        levels,
         positions,
         &before,
         budget,
         &mut work[..half],
     );
-    passes::record(records, counts, positions, &before, &mut work[half..]);
+    passes::record(
+        records,
+        counts,
+        levels,
+        positions,
+        &before,
+        &mut work[half..],
+    );
     made
 }
 
@@ -126,11 +136,12 @@ fn analyse_read(
 {
     let records = events::records_of(file, trailer);
     let counts = trailer.counts;
+    let levels = events::levels_of(file, trailer);
     if !work_fits(records, counts, work) {
         return Analysis::Refused(Refusal::Work);
     }
     let positions = events::positions(records);
-    let made = fill(records, counts, &positions, budget, work);
+    let made = fill(records, counts, levels, &positions, budget, work);
     let listed = list_pairs(records, counts, &positions, work, list);
     let pairs = listed.pairs;
     if !listed.fits {
@@ -159,7 +170,7 @@ pub fn analyse(file: &[u8], budget: u32, work: &mut [u16], list: &mut [u16]) -> 
 // Whether a and b are two different events of these records.
 fn two_events(records: &[u8], counts: Counts, a: usize, b: usize) -> bool
     requires { ⌜ Ready (now records) counts ⌝ }
-    ensures { λ r. ⌜ r ≡ twoEvents (recordingBy (now (records .entry)) counts) a b ⌝ }
+    ensures { λ r. ⌜ r ≡ twoEvents (recordingBy (now (records .entry)) counts []) a b ⌝ }
 {
     let n = records.len() / 4;
     (a < n) & (b < n) & (a != b)
@@ -179,6 +190,7 @@ fn ask_read(
 {
     let records = events::records_of(file, trailer);
     let counts = trailer.counts;
+    let levels = events::levels_of(file, trailer);
     if !two_events(records, counts, a, b) {
         return Answer::Refused(Refusal::Event);
     }
@@ -186,7 +198,7 @@ fn ask_read(
         return Answer::Refused(Refusal::Work);
     }
     let positions = events::positions(records);
-    fill(records, counts, &positions, budget, work);
+    fill(records, counts, levels, &positions, budget, work);
     Answer::Related(relate(records, counts, &positions, work, a, b))
 }
 

@@ -1,15 +1,16 @@
 // The records as lent bytes: an event's fields, searches over the first records, and what one look at all records keeps
-// of each: positions, the event before, and chains of the events on one object.
+// of each: positions, the event before, and chains of the events on one object. And the level bytes: start counts.
 ghost use mathlib.Core.Path.{_≡_};
 ghost use Prim.Native.Nat.{_+_, _*_, _/_, _≤_, _<_};
 ghost use lib.ListN.{length};
 ghost use Rattle.model.specs.Numbers.{lastOf};
-ghost use Rattle.model.specs.Recording.{eventIn, ofTask, isOn};
-ghost use Rattle.model.specs.File.{u16At, eventsOf, recordBytes};
+ghost use Rattle.model.specs.Recording.{startOf, eventIn, ofTask, isOn};
+ghost use Rattle.model.specs.File.{u16At, eventsOf, recordBytes, levelCount, levelBytes, levelsBy};
 ghost use Rattle.model.specs.Reading.{mostCells, mostEvents};
 ghost use Rattle.model.specs.Passes.{beforeOrFork};
 ghost use Rattle.events.specs.Chains.{among, Chained};
 ghost use Rattle.events.specs.Kept.{Positions, Below, foundBelow, Before};
+use model::Counts;
 use model::Event;
 use model::FORK;
 use model::Found;
@@ -32,6 +33,37 @@ pub fn records_of(file: &[u8], trailer: Trailer) -> &[u8]
     let start = trailer.start;
     let stop = start + 4 * trailer.records;
     &file[start..stop]
+}
+
+// How many level bytes a file with these counts has between its records and its trailer.
+pub fn level_count(counts: Counts) -> usize
+    ensures { λ r. ⌜ (r ≡ levelCount counts) × (r < 65536) ⌝ }
+{
+    if counts.edition == 1 {
+        return 0;
+    }
+    counts.semaphores as usize
+}
+
+// The level bytes of a file with this trailer.
+pub fn levels_of(file: &[u8], trailer: Trailer) -> &[u8]
+    requires { ⌜ trailer .start + 4 * trailer .records + levelCount (trailer .counts) ≤ length (now file) ⌝ }
+    ensures { λ r. ⌜ now r ≡ levelBytes (now (file .entry)) trailer ⌝ }
+{
+    let start = trailer.start + 4 * trailer.records;
+    let stop = start + level_count(trailer.counts);
+    &file[start..stop]
+}
+
+// The start count of semaphore s; 0 past the end of the levels, as in edition 1.
+pub fn start_of(levels: &[u8], s: u16) -> u16
+    ensures { λ r. ⌜ r ≡ startOf (levelsBy (now (levels .entry))) s ⌝ }
+{
+    let i = s as usize;
+    if i < levels.len() {
+        return levels[i] as u16;
+    }
+    0 // no byte is given
 }
 
 // Event e, which is record e.

@@ -13,12 +13,12 @@ use Rattle.model.proofs.Tests.{both, first, second, last-or-lower, ltb-
 use Rattle.model.proofs.Checks.{unless-passed, then-passed}
 
 module _ (E : Recording) where
-  no-fault : (n : ℕ) → firstFault E n ≡ Check.Passed → (e : ℕ) → e < n → recordCheck (E .counts) (take e (E .events)) (event E e) ≡ Check.Passed
+  no-fault : (n : ℕ) → firstFault E n ≡ Check.Passed → (e : ℕ) → e < n → recordCheck (E .counts) (E .levels) (take e (E .events)) (event E e) ≡ Check.Passed
   unfolding firstFault
   no-fault zero h e l = absurd (not-suc-le-zero l)
   no-fault (suc n) h e l =
       let (earlier, here) = then-passed (firstFault E n) _ h in
-      last-or-lower l (λ d. subst (λ (x : ℕ). recordCheck (E .counts) (take x (E .events)) (event E x) ≡ Check.Passed) (sym d) here)
+      last-or-lower l (λ d. subst (λ (x : ℕ). recordCheck (E .counts) (E .levels) (take x (E .events)) (event E x) ≡ Check.Passed) (sym d) here)
       (λ k. no-fault n earlier e k)
 
   module _ (acc : Accepted E) where
@@ -29,10 +29,10 @@ module _ (E : Recording) where
         let (kind, a) = unless-passed _ _ _ (no-fault (size E) acc e l) in
         let (name, b) = unless-passed _ _ _ a in
         let (life, c) = unless-passed (lifeKept (take e (E .events)) (event E e)) _ _ b in
-        let (wait, d) = unless-passed (waitKept (take e (E .events)) (event E e)) _ _ c in
+        let (wait, d) = unless-passed (waitKept (E .levels) (take e (E .events)) (event E e)) _ _ c in
         record { kind = kind; names = name; rules = both life wait }
 
-    pub accepted-obeys : (e : ℕ) → e < size E → obeys (take e (E .events)) (event E e) ≡ true
+    pub accepted-obeys : (e : ℕ) → e < size E → obeys (E .levels) (take e (E .events)) (event E e) ≡ true
     accepted-obeys e l = kept-at e l .rules
 
     -- its task is below T, and its object below the names of its class

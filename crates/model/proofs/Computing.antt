@@ -5,8 +5,8 @@ use Rattle.model.specs.declared.Refusal.{Refusal}
 use Rattle.model.specs.Numbers.{sum, count, filter, listFrom, each, picked, lastOf, nth, largest, insert, sort, kthLeast}
 use Rattle.model.specs.Refusals.{numberOf, recordOf, pairsOf}
 use Rattle.model.specs.Recording.{waitKept, lifeKept, classOf, knownKind, named, recordCheck, firstFault}
-use Rattle.model.specs.File.{u16At, u32At, eventAt, eventsOf, trailerOf, editionOf, recordBytes, recordingOf}
-use Rattle.model.specs.Reading.{extentMet, inRange, fileCheck, readingOf, preambleOf, recordsOf}
+use Rattle.model.specs.File.{u16At, u32At, eventAt, eventsOf, trailerOf, recordBytes, levelCount, levelBytes, recordingOf}
+use Rattle.model.specs.Reading.{knownEdition, extentMet, inRange, fileCheck, readingOf, preambleOf, recordsOf, startsOf}
 use Rattle.model.specs.Walking.{stepAt}
 use Rattle.model.specs.Orders.{place}
 use Rattle.model.specs.Vectors.{position, flat, start, ordered, unordered}
@@ -15,13 +15,13 @@ use Rattle.model.specs.Recorded.{matched, recordedTo, recorded}
 use Rattle.model.specs.Pairs.{conflict, racePair, mark, entriesOf, cellEntries, entries, listed, entryNumbers}
 use Rattle.model.specs.Analysing.{filled, workCheck, analysisCheck, analysisOf, workAfterAnalysing, listAfterAnalysing}
 use Rattle.model.specs.Question.{relationOf, questionCheck, answerOf, workAfterAsking}
-use Rattle.model.specs.Writing.{trailerBytes, fileOf, recordsCheck, writingCheck, writtenOf, outAfterWriting}
+use Rattle.model.specs.Writing.{trailerBytes, fileOf, startsFit, recordsCheck, writingCheck, writtenOf, outAfterWriting}
 use Rattle.model.specs.Text.{bytes, decimalIn}
 use Rattle.model.specs.Report.{field, resultLine, entryLine, entryText, entriesText, refusalLine, resultText, isLong, reportOf, workAfterReporting, listAfterReporting, laid, filling}
 use Rattle.model.specs.Rows.Starred.{RefusedAs}
 
 reading : Unit {0}
-unfolding sum count listFrom each waitKept lifeKept classOf knownKind named recordCheck firstFault u16At u32At eventAt eventsOf trailerOf editionOf recordBytes recordingOf extentMet inRange fileCheck readingOf preambleOf recordsOf stepAt
+unfolding sum count listFrom each waitKept lifeKept classOf knownKind named recordCheck firstFault u16At u32At eventAt eventsOf trailerOf recordBytes levelCount levelBytes recordingOf knownEdition extentMet inRange fileCheck readingOf preambleOf recordsOf startsOf stepAt
 reading = tt
 
 vectors : Unit {0}
@@ -29,7 +29,7 @@ unfolding place filter picked lastOf nth largest insert sort kthLeast position f
 vectors = tt
 
 calls : Unit {0}
-unfolding conflict racePair mark entriesOf cellEntries entries listed entryNumbers filled workCheck analysisCheck analysisOf workAfterAnalysing listAfterAnalysing relationOf questionCheck answerOf workAfterAsking trailerBytes fileOf recordsCheck writingCheck writtenOf outAfterWriting
+unfolding conflict racePair mark entriesOf cellEntries entries listed entryNumbers filled workCheck analysisCheck analysisOf workAfterAnalysing listAfterAnalysing relationOf questionCheck answerOf workAfterAsking trailerBytes fileOf startsFit recordsCheck writingCheck writtenOf outAfterWriting
 calls = tt
 
 printing : Unit {0}

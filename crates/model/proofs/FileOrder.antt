@@ -43,7 +43,7 @@ file-admissible E acc =
     record {
       once = λ e. picked-occurs (λ e. true) e (size E);
       own = λ a b k l t. file-precedes E a b k l;
-      rules = subst Obeying (sym (file-records E (size E) (le-refl (size E)) ∙ take-length (E .events))) (accepted-obeys E acc);
+      rules = subst (Obeying (E .levels)) (sym (file-records E (size E) (le-refl (size E)) ∙ take-length (E .events))) (accepted-obeys E acc);
     }
 
 pub file-lower : (E : Recording) (a b : ℕ) → a < size E → b < size E → Precedes (fileOrder E) a b → a < b

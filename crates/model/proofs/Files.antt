@@ -1,7 +1,7 @@
 -- What it says of a file that reading accepts it.
 -- Assumes nothing.
 use Prim.Native.Nat.{ℕ, _+_, _*_, _/_, _≤_}
-use mathlib.Core.Path.{_≡_, refl, _∙_}
+use mathlib.Core.Path.{_≡_, refl, sym, ap, _∙_}
 use mathlib.Core.Bool.{true, _&&_}
 use mathlib.Core.List.{List}
 use native.Mathlib.Omega.{arith}
@@ -12,8 +12,8 @@ use Rattle.model.specs.declared.Trailer.{Trailer}
 use Rattle.model.specs.declared.Check.{Check}
 use Rattle.model.specs.declared.Reading.{Reading}
 use Rattle.model.specs.Recording.{size, noEvent, Accepted}
-use Rattle.model.specs.File.{eventAt, eventsOf, trailerAt, trailerOf, editionOf, recordBytes, recordingOf}
-use Rattle.model.specs.Reading.{extentMet, inRange, fileCheck, readingBy, readingOf, mostTasks, mostSemaphores, mostCells, mostEvents}
+use Rattle.model.specs.File.{eventAt, eventsOf, trailerAt, trailerOf, levelCount, recordBytes, recordingOf}
+use Rattle.model.specs.Reading.{lastEdition, knownEdition, extentMet, inRange, fileCheck, readingBy, readingOf, mostTasks, mostSemaphores, mostCells, mostEvents}
 use Rattle.model.specs.Acceptable.{InRange}
 use Rattle.model.proofs.Tests.{first, second, leb-true, eqb-true}
 use Rattle.model.proofs.Checks.{unless-passed}
@@ -36,23 +36,26 @@ in-range c n h =
 -- all that the checks of a file say
 pub record Sound (f : List ℕ) : Type 0 where
   pub long : 16 ≤ length f
-  pub edition : editionOf f ≡ 1
-  pub extent : trailerOf f .start + 4 * trailerOf f .records + 16 ≡ length f
+  pub some-edition : 1 ≤ trailerOf f .counts .edition
+  pub no-later : trailerOf f .counts .edition ≤ lastEdition
+  pub extent : trailerOf f .start + 4 * trailerOf f .records + levelCount (trailerOf f .counts) + 16 ≡ length f
   pub range : InRange (trailerOf f .counts) (trailerOf f .records)
   pub accepted : Accepted (recordingOf f)
 
 pub sound : (f : List ℕ) → fileCheck f ≡ Check.Passed → Sound f
-unfolding fileCheck extentMet Accepted
+unfolding fileCheck knownEdition extentMet Accepted
 sound f h =
     let (long, a) = unless-passed (leb 16 (length f)) _ _ h in
-    let (edition, b) = unless-passed (eqb (editionOf f) 1) _ _ a in
-    let (extent, c) = unless-passed (eqb (trailerOf f .start + 4 * trailerOf f .records) (trailerAt f)) _ _ b in
+    let n = trailerOf f .counts .edition in
+    let (edition, b) = unless-passed (leb 1 n && leb n lastEdition) _ _ a in
+    let (extent, c) = unless-passed (eqb (trailerOf f .start + 4 * trailerOf f .records + levelCount (trailerOf f .counts)) (trailerAt f)) _ _ b in
     let (range, d) = unless-passed (inRange (trailerOf f .counts) (trailerOf f .records)) _ _ c in
     let l = leb-true 16 (length f) long in
-    let x = eqb-true (trailerOf f .start + 4 * trailerOf f .records) (trailerAt f) extent in
+    let x = eqb-true (trailerOf f .start + 4 * trailerOf f .records + levelCount (trailerOf f .counts)) (trailerAt f) extent in
     record {
       long = l;
-      edition = eqb-true (editionOf f) 1 edition;
+      some-edition = leb-true 1 n (first (leb 1 n) (leb n lastEdition) edition);
+      no-later = leb-true n lastEdition (second (leb 1 n) (leb n lastEdition) edition);
       extent = omega arith;
       range = in-range (trailerOf f .counts) (trailerOf f .records) range;
       accepted = d;
@@ -67,6 +70,11 @@ reading-passed f h q = go (fileCheck f) q
     go Check.Passed q = refl
     go (Check.Failed r) q = let z : _≡_ {A = ℕ} 0 1 = cc in absurd (omega arith)
 
+-- and answers the file's own trailer
+pub trailer-read : (f : List ℕ) (h : Trailer) → readingOf f ≡ Reading.Accepted h → trailerOf f ≡ h
+unfolding readingOf
+trailer-read f h q = let r = sym (ap (readingBy (trailerOf f)) (reading-passed f h q)) ∙ q in cc
+
 pub accepted-recording : (f : List ℕ) (h : Trailer) → readingOf f ≡ Reading.Accepted h → Accepted (recordingOf f)
 accepted-recording f h q = sound f (reading-passed f h q) .accepted
 
@@ -77,7 +85,7 @@ unfolding eventsOf
 events-length s = listOf-length (eventAt s) noEvent (length s / 4)
 
 -- where start and N meet the length, the records' part has N whole records, and so many events
-module _ (f : List ℕ) (met : trailerOf f .start + 4 * trailerOf f .records + 16 ≡ length f) where
+module _ (f : List ℕ) (met : trailerOf f .start + 4 * trailerOf f .records + levelCount (trailerOf f .counts) + 16 ≡ length f) where
   bytes-met : length (recordBytes f (trailerOf f)) ≡ 4 * trailerOf f .records
   unfolding recordBytes
   bytes-met = simp (length-take, length-drop) (omega arith)

@@ -1,6 +1,6 @@
 -- The events that the recorded vectors put at or before x, first, and then the others: an admissible order.
 -- Assumes nothing.
-use Prim.Native.Nat.{ℕ, zero, suc, _<_}
+use Prim.Native.Nat.{ℕ, zero, suc, _+_, _≤_, _<_}
 use mathlib.Core.Path.{_≡_, refl, sym, ap, subst, _∙_}
 use mathlib.Core.Bool.{Bool, true, false, not, _&&_}
 use mathlib.Core.List.{List, _++_, List·Memᴰ, Memᴰ·append-left, Memᴰ·append-right}
@@ -10,13 +10,13 @@ use native.Mathlib.Omega.{arith}
 use lib.Dec.{leb, ltb, eqb}
 use Rattle.model.specs.declared.Event.{Event}
 use Rattle.model.specs.Numbers.{bit, tally, count, picked}
-use Rattle.model.specs.Recording.{event, ofTask, isSignal, isWait, isFork, isJoin, notJoined, forkKept, joinKept, waitKept, lifeKept, obeys, Accepted, Recording, size, taskOf, kindOf, objectOf, fork, join, wait}
+use Rattle.model.specs.Recording.{startOf, event, ofTask, isSignal, isWait, isFork, isJoin, notJoined, forkKept, joinKept, waitKept, lifeKept, obeys, Accepted, Recording, size, taskOf, kindOf, objectOf, fork, join, wait}
 use Rattle.model.specs.Orders.{place, Precedes, occurrences, Admissible}
 use Rattle.model.specs.Vectors.{Vectors}
 use Rattle.model.specs.Passes.{previous, sources}
 use Rattle.model.specs.Recorded.{matched, recorded}
-use Rattle.model.proofs.Tests.{to-not, both, first, second, and-fails, implies-by, tests, ltb-true, lt-ltb, eqb-true, eq-eqb, ne-eqb, leb-true}
-use Rattle.model.proofs.Sum.{tally-zero, tally-has, tally-lt, tally-inject, rank-same}
+use Rattle.model.proofs.Tests.{of-not, to-not, both, first, second, and-fails, implies-by, tests, ltb-true, lt-ltb, eqb-true, eq-eqb, ne-eqb, leb-true, all-three, ltb-false}
+use Rattle.model.proofs.Sum.{tally-zero, tally-has, tally-lt, tally-inject, rank-same, tally-le, tally-split, tally-first}
 use Rattle.model.proofs.Picked.{parted-once, parted-first, parted-rises}
 use Rattle.model.proofs.Rules.{sooner, earlier, count-earlier, obeying-by, kind-is, object-is, fork-other, join-other, fork-first, join-last, join-forked, one-fork, one-join}
 use Rattle.model.proofs.Sources.{last-some, last-found, in-found, has-previous, has-fork, has-join-fork, has-join-end, fork-found}
@@ -80,7 +80,7 @@ module _ (E : Recording) (acc : Accepted E) (x : ℕ) (inside : x < size E) wher
   keeps-join : (j e : ℕ) → j < size E → e < size E → isJoin (taskOf E e) (event E j) ≡ true → Precedes o e j
   keeps-join j e k l t = keep e j (file-lower E e j l k (join-last E f₀ file j e k l t)) k (join-brings j e k l t)
 
-  keeps-match : (e s : ℕ) → e < size E → matched (E .events) e ≡ Found.At s → Precedes o s e
+  keeps-match : (e s : ℕ) → e < size E → matched (E .levels) (E .events) e ≡ Found.At s → Precedes o s e
   keeps-match e s l q =
       keep s e (matched-lower E acc e s l q) l (up-cause E acc x e s inside l (Memᴰ·append-right (sources (E .events) e) (in-found q)))
 
@@ -128,44 +128,56 @@ module _ (E : Recording) (acc : Accepted E) (x : ℕ) (inside : x < size E) wher
           let h = tally-has (λ a. isFork (objectOf E e) (event E a) && sooner o a e) (size E) f k (both q (lt-ltb _ _ still)) in
           let s = count-earlier E o once (isFork (objectOf E e)) e in omega tests
 
-  -- the waits at or before a wait have each a signal of their own before it
+  -- of the waits at or before a wait, those after the first ones have each a signal of their own before it
   wait-served : (e : ℕ) → e < size E → eqb (kindOf E e) wait ≡ true
       → tally (λ a. isWait (objectOf E e) (event E a) && sooner o a e) (size E)
-      < tally (λ a. isSignal (objectOf E e) (event E a) && sooner o a e) (size E)
+      < startOf (E .levels) (objectOf E e) + tally (λ a. isSignal (objectOf E e) (event E a) && sooner o a e) (size E)
   wait-served e l t =
       let more = tally-lt (λ a. isWait S (event E a) && sooner o a e) at (size E) e
       (λ a k u. let s = second (isWait S (event E a)) (sooner o a e) u in both (first (isWait S (event E a)) _ u) (omega tests)) l
       (and-fails (isWait S (event E e)) (omega tests)) (both (both t (eq-eqb S S refl)) (omega tests)) in
-      let each = tally-inject M one at (λ a. isSignal S (event E a) && sooner o a e) (size E) (size E) give in
+      let parts = tally-split at early (size E) in
+      let few = tally-le (λ a. at a && early a) (λ a. isWait S (event E a) && early a) (size E)
+      (λ a k u. let (w, b, c) = all-three (isWait S (event E a)) _ (early a) u in both w c) in
+      let ranks = tally-first (λ w. isWait S (event E w)) first-ones (size E) in
+      let each = tally-inject M one (λ a. at a && not (early a)) (λ a. isSignal S (event E a) && sooner o a e) (size E) (size E) give in
       omega arith
     where
       S : ℕ
       S = objectOf E e
 
+      first-ones : ℕ
+      first-ones = startOf (E .levels) S
+
+      early : ℕ → Bool
+      early a = ltb (tally (λ w. isWait S (event E w)) a) first-ones
+
       at : ℕ → Bool
       at a = isWait S (event E a) && leb (place o a) (place o e)
 
       M : ℕ → ℕ → Type 0
-      M a s = (isWait S (event E a) ≡ true) × (matched (E .events) a ≡ Found.At s)
+      M a s = (isWait S (event E a) ≡ true) × (matched (E .levels) (E .events) a ≡ Found.At s)
 
-      rank : (a s : ℕ) → M a s → tally (λ w. isWait S (event E w)) a ≡ tally (λ b. isSignal S (event E b)) s
+      rank : (a s : ℕ) → M a s → tally (λ w. isWait S (event E w)) a ≡ first-ones + tally (λ b. isSignal S (event E b)) s
       rank a s (w, q) =
-          subst (λ (y : ℕ). tally (λ w. isWait y (event E w)) a ≡ tally (λ b. isSignal y (event E b)) s) (object-is 2 S (event E a) w)
+          subst (λ (y : ℕ). tally (λ w. isWait y (event E w)) a ≡ startOf (E .levels) y + tally (λ b. isSignal y (event E b)) s) (object-is 2 S (event E a) w)
           (sym (matched-wait E a s q .1 .rank))
 
       one : (a b s : ℕ) → M a s → M b s → a ≡ b
       one a b s u v = rank-same (λ w. isWait S (event E w)) a b (u .0) (v .0) (rank a s u ∙ sym (rank b s v))
 
-      give : (a : ℕ) → a < size E → at a ≡ true → (s : ℕ) × (s < size E) × ((isSignal S (event E s) && sooner o s e) ≡ true) × M a s
+      give : (a : ℕ) → a < size E → (at a && not (early a)) ≡ true → (s : ℕ) × (s < size E) × ((isSignal S (event E s) && sooner o s e) ≡ true) × M a s
       give a k u =
-          let w = first (isWait S (event E a)) (leb (place o a) (place o e)) u in
-          let before = leb-true (place o a) (place o e) (second (isWait S (event E a)) _ u) in
-          let (s, q) = matched-found E acc a k (kind-is 2 S (event E a) w) in
+          let (w, near, late) = all-three (isWait S (event E a)) (leb (place o a) (place o e)) (not (early a)) u in
+          let before = leb-true (place o a) (place o e) near in
+          let later = subst (λ (y : ℕ). startOf (E .levels) y ≤ tally (λ w. isWait y (event E w)) a) (sym (object-is 2 S (event E a) w))
+          (ltb-false _ first-ones (of-not (early a) late)) in
+          let (s, q) = matched-found E acc a k (kind-is 2 S (event E a) w) later in
           let m = matched-wait E a s q .1 in
           let p = keeps-match a s k q in
           (s, m .inside, both (subst (λ (y : ℕ). isSignal y (event E s) ≡ true) (object-is 2 S (event E a) w) (m .signal)) (lt-ltb (place o s) (place o e) (omega arith)), (w, q))
 
-  wait-kept : (e : ℕ) → e < size E → waitKept (earlier E o e) (event E e) ≡ true
+  wait-kept : (e : ℕ) → e < size E → waitKept (E .levels) (earlier E o e) (event E e) ≡ true
   unfolding waitKept
   wait-kept e l =
       implies-by (eqb (kindOf E e) wait) _
@@ -174,7 +186,7 @@ module _ (E : Recording) (acc : Accepted E) (x : ℕ) (inside : x < size E) wher
       let w = count-earlier E o once (isWait (objectOf E e)) e in
       let s = count-earlier E o once (isSignal (objectOf E e)) e in omega tests)
 
-  rules : (e : ℕ) → e < size E → obeys (earlier E o e) (event E e) ≡ true
+  rules : (e : ℕ) → e < size E → obeys (E .levels) (earlier E o e) (event E e) ≡ true
   unfolding obeys lifeKept
   rules e l = both (both (both (not-joined e l) (fork-kept e l)) (join-kept e l)) (wait-kept e l)
 

@@ -18,12 +18,14 @@ pub mod Settle
 pub mod Recorded
 pub mod Forward
 pub mod Listed
+pub mod Levels
 pub mod Files
 pub mod Acceptable
 pub mod Promise
 pub mod Questions
 pub mod Uncut
 pub mod RoundTrip
+pub mod Editions
 pub mod Computing
 pub mod Starred
 pub mod Instance

@@ -1,6 +1,6 @@
 -- The recorded run: its vectors as an equation, and that what they order is ordered all the way down.
 -- Assumes nothing.
-use Prim.Native.Nat.{ℕ, zero, suc, _≤_, _<_, max, zero-le}
+use Prim.Native.Nat.{ℕ, zero, suc, _+_, _-_, _≤_, _<_, max, zero-le}
 use mathlib.Core.Path.{_≡_, refl, sym, ap, ap₂, subst, _∙_}
 use mathlib.Core.Logic.{_⊎_, inl, inr}
 use mathlib.Core.Bool.{Bool, true, false, cond, _&&_}
@@ -11,13 +11,13 @@ use native.Mathlib.Decide.{le-ind}
 use native.Mathlib.Omega.{arith}
 use lib.Dec.{leb, ltb, eqb}
 use lib.ListN.{getD, set, List·getD-eq-default}
-use Rattle.model.specs.Numbers.{tally, largest, found}
-use Rattle.model.specs.Recording.{event, ofTask, isSignal, isWait, Accepted, Recording, size, taskOf, kindOf, objectOf, tasks, wait}
+use Rattle.model.specs.Numbers.{tally, largest, nth, found}
+use Rattle.model.specs.Recording.{startOf, event, ofTask, isSignal, isWait, Accepted, Recording, size, taskOf, kindOf, objectOf, tasks, wait}
 use Rattle.model.specs.Orders.{Admissible}
 use Rattle.model.specs.Vectors.{position, Vectors, number, start}
 use Rattle.model.specs.Passes.{sources, gathered, signalsOn}
 use Rattle.model.specs.Recorded.{waitsBefore, matchWhere, matched, causes, recordedTo, recorded}
-use Rattle.model.proofs.Tests.{cases, tests, compared, ltb-true, ltb-false, eqb-true, eq-eqb, le-leb, leb-true, leb-false}
+use Rattle.model.proofs.Tests.{cases, tests, compared, ltb-true, ltb-false, le-ltb, eqb-true, eq-eqb, le-leb, leb-true, leb-false}
 use Rattle.model.proofs.Sum.{tally-grow, tally-ext, tally-cut}
 use Rattle.model.proofs.Least.{largest-has, largest-ext, largest-reached}
 use Rattle.model.proofs.Lists.{number-set-same, number-set-other}
@@ -31,28 +31,40 @@ use Rattle.model.proofs.Climb.{Shaped, set-shaped, start-shaped, gather
 
 -- ---- the matched signal
 
--- s is the k-th signal on the semaphore where e is the k-th wait
+-- s is the k-th signal on the semaphore where e is the k-th wait after the first ones, as many as its start count
 pub record Match (E : Recording) (e s : ℕ) : Type 0 where
   pub inside : s < size E
   pub signal : isSignal (objectOf E e) (event E s) ≡ true
-  pub rank : tally (λ b. isSignal (objectOf E e) (event E b)) s ≡ tally (λ w. isWait (objectOf E e) (event E w)) e
+  pub rank : startOf (E .levels) (objectOf E e) + tally (λ b. isSignal (objectOf E e) (event E b)) s ≡ tally (λ w. isWait (objectOf E e) (event E w)) e
 
-pub matched-wait : (E : Recording) (e s : ℕ) → matched (E .events) e ≡ Found.At s → (eqb (kindOf E e) wait ≡ true) × Match E e s
+pub matched-wait : (E : Recording) (e s : ℕ) → matched (E .levels) (E .events) e ≡ Found.At s → (eqb (kindOf E e) wait ≡ true) × Match E e s
 unfolding matched signalsOn
 matched-wait E e s h = go (eqb (kindOf E e) wait) refl h
   where
-    go : (b : Bool) → eqb (kindOf E e) wait ≡ b → matchWhere (E .events) e b ≡ Found.At s → (eqb (kindOf E e) wait ≡ true) × Match E e s
-    go true q h =
-        let (inside, signal, rank) = nth-of (λ b. isSignal (objectOf E e) (event E b)) (size E) (waitsBefore (E .events) e) s h in
-        (q, record { inside = inside; signal = signal; rank = rank })
+    go : (b : Bool) → eqb (kindOf E e) wait ≡ b → matchWhere (E .levels) (E .events) e b ≡ Found.At s → (eqb (kindOf E e) wait ≡ true) × Match E e s
     go false q h = let z : _≡_ {A = ℕ} 0 1 = cc in absurd (omega arith)
+    go true q h = (q, later _ _ h refl refl)
+      where
+        waits : ℕ
+        waits = waitsBefore (E .events) e
+
+        first : ℕ
+        first = startOf (E .levels) (objectOf E e)
+
+        later : (t : Bool) (k : ℕ) → cond t Found.Nothing (nth (signalsOn (E .events) (objectOf E e)) k) ≡ Found.At s
+            → t ≡ ltb waits first → k ≡ waits - first → Match E e s
+        later true k h t d = let z : _≡_ {A = ℕ} 0 1 = cc in absurd (omega arith)
+        later false k h t d =
+            let (inside, signal, rank) = nth-of (λ b. isSignal (objectOf E e) (event E b)) (size E) k s h in
+            let late = ltb-false waits first (sym t) in
+            record { inside = inside; signal = signal; rank = omega arith }
 
 module _ (E : Recording) (acc : Accepted E) where
   file : Admissible E (fileOrder E)
   file = file-admissible E acc
 
   wait-before : (e : ℕ) → e < size E → eqb (kindOf E e) wait ≡ true
-      → tally (λ w. isWait (objectOf E e) (event E w)) e < tally (λ b. isSignal (objectOf E e) (event E b)) e
+      → tally (λ w. isWait (objectOf E e) (event E w)) e < startOf (E .levels) (objectOf E e) + tally (λ b. isSignal (objectOf E e) (event E b)) e
   wait-before e l q =
       let a = wait-served E (fileOrder E) file e l q in
       let w = cut (λ w. isWait (objectOf E e) (event E w)) in
@@ -63,7 +75,7 @@ module _ (E : Recording) (acc : Accepted E) where
           tally-ext (λ a. p a && sooner (fileOrder E) a e) (λ a. p a && ltb a e) (size E) (λ a k. ap (λ (b : Bool). p a && b) (file-test E a e k l))
           ∙ tally-cut p e (size E) (omega arith)
 
-  pub matched-lower : (e s : ℕ) → e < size E → matched (E .events) e ≡ Found.At s → s < e
+  pub matched-lower : (e s : ℕ) → e < size E → matched (E .levels) (E .events) e ≡ Found.At s → s < e
   matched-lower e s l h =
       cases (ltb s e) (λ t. ltb-true s e t)
       (λ t.
@@ -73,21 +85,23 @@ module _ (E : Recording) (acc : Accepted E) where
       let g = tally-grow (λ b. isSignal (objectOf E e) (event E b)) e s (ltb-false s e t) in
       absurd (omega arith))
 
-  pub matched-found : (e : ℕ) → e < size E → eqb (kindOf E e) wait ≡ true → (s : ℕ) × (matched (E .events) e ≡ Found.At s)
+  -- the waits after the first ones are matched
+  pub matched-found : (e : ℕ) → e < size E → eqb (kindOf E e) wait ≡ true → startOf (E .levels) (objectOf E e) ≤ waitsBefore (E .events) e
+      → (s : ℕ) × (matched (E .levels) (E .events) e ≡ Found.At s)
   unfolding matched signalsOn
-  matched-found e l q =
+  matched-found e l q late =
       let signals = tally-grow (λ b. isSignal (objectOf E e) (event E b)) e (size E) (omega arith) in
       let before = wait-before e l q in
-      let (s, h) = nth-found (λ b. isSignal (objectOf E e) (event E b)) (size E) (waitsBefore (E .events) e) (omega arith) in
-      (s, ap (matchWhere (E .events) e) q ∙ h)
+      let (s, h) = nth-found (λ b. isSignal (objectOf E e) (event E b)) (size E) (waitsBefore (E .events) e - startOf (E .levels) (objectOf E e)) (omega arith) in
+      (s, rw (q, le-ltb (waitsBefore (E .events) e) (startOf (E .levels) (objectOf E e)) late) h)
 
   -- what an event follows was recorded before it
-  pub causes-lower : (e s : ℕ) → e < size E → List·Memᴰ s (causes (E .events) e) → s < e
+  pub causes-lower : (e s : ℕ) → e < size E → List·Memᴰ s (causes (E .levels) (E .events) e) → s < e
   causes-lower e s l h = go (List·Memᴰ·append-cases (sources (E .events) e) h)
     where
-      go : List·Memᴰ s (sources (E .events) e) ⊎ List·Memᴰ s (found (matched (E .events) e)) → s < e
+      go : List·Memᴰ s (sources (E .events) e) ⊎ List·Memᴰ s (found (matched (E .levels) (E .events) e)) → s < e
       go (inl k) = let (a, b) = source-precedes E (fileOrder E) file e s l (source-of E e s k) in file-lower E s e a l b
-      go (inr k) = matched-lower e s l (of-found (matched (E .events) e) k)
+      go (inr k) = matched-lower e s l (of-found (matched (E .levels) (E .events) e) k)
 
 -- ---- the recorded vectors
 
@@ -96,17 +110,17 @@ module _ (E : Recording) where
   unfolding recordedTo
   recordedTo-shaped zero h = start-shaped E
   recordedTo-shaped (suc n) h =
-      set-shaped (size E) (tasks E) (recordedTo E n) n (gathered E (recordedTo E n) (causes (E .events) n) n) h
-      (gathered-length E (recordedTo E n) (causes (E .events) n) n) (recordedTo-shaped n (omega arith))
+      set-shaped (size E) (tasks E) (recordedTo E n) n (gathered E (recordedTo E n) (causes (E .levels) (E .events) n) n) h
+      (gathered-length E (recordedTo E n) (causes (E .levels) (E .events) n) n) (recordedTo-shaped n (omega arith))
 
-  recorded-suc : (n : ℕ) → recordedTo E (suc n) ≡ set (recordedTo E n) n (gathered E (recordedTo E n) (causes (E .events) n) n)
+  recorded-suc : (n : ℕ) → recordedTo E (suc n) ≡ set (recordedTo E n) n (gathered E (recordedTo E n) (causes (E .levels) (E .events) n) n)
   unfolding recordedTo
   recorded-suc n = refl
 
   step-other : (n e t : ℕ) → ¬ (e ≡ n) → number (recordedTo E (suc n)) e t ≡ number (recordedTo E n) e t
   step-other n e t d =
       ap (λ (X : Vectors). number X e t) (recorded-suc n)
-      ∙ number-set-other (recordedTo E n) n e t (gathered E (recordedTo E n) (causes (E .events) n) n) d
+      ∙ number-set-other (recordedTo E n) n e t (gathered E (recordedTo E n) (causes (E .levels) (E .events) n) n) d
 
   -- a vector is made once
   made-once : (n m e t : ℕ) → e < n → n ≤ m → number (recordedTo E m) e t ≡ number (recordedTo E n) e t
@@ -123,10 +137,10 @@ module _ (E : Recording) where
   recorded-shaped = recordedTo-shaped (size E) (le-refl (size E))
 
 -- the event before e in its task is one that e follows, at or after any other before e
-previous-cause : (E : Recording) (a e : ℕ) → a < e → taskOf E a ≡ taskOf E e → (p : ℕ) × (a ≤ p) × (p < e) × (taskOf E p ≡ taskOf E e) × List·Memᴰ p (causes (E .events) e)
+previous-cause : (E : Recording) (a e : ℕ) → a < e → taskOf E a ≡ taskOf E e → (p : ℕ) × (a ≤ p) × (p < e) × (taskOf E p ≡ taskOf E e) × List·Memᴰ p (causes (E .levels) (E .events) e)
 previous-cause E a e l t =
     let (p, h, r, k) = last-found (λ a. ofTask (taskOf E e) (event E a)) e a l (eq-eqb _ _ t) in
-    (p, k, r .inside, eqb-true (taskOf E p) (taskOf E e) (r .passes), Memᴰ·append-left (found (matched (E .events) e)) (has-previous E e p h))
+    (p, k, r .inside, eqb-true (taskOf E p) (taskOf E e) (r .passes), Memᴰ·append-left (found (matched (E .levels) (E .events) e)) (has-previous E e p h))
 
 -- ---- what is ordered is ordered all the way down
 
@@ -135,15 +149,15 @@ module _ (E : Recording) (acc : Accepted E) where
   R = recorded E
 
   -- the recorded vector of e: the largest of its start and of the recorded vectors that it follows
-  recorded-at : (e t : ℕ) → e < size E → t < (tasks E) → number R e t ≡ max (number (start E) e t) (largest (λ s. number R s t) (causes (E .events) e))
+  recorded-at : (e t : ℕ) → e < size E → t < (tasks E) → number R e t ≡ max (number (start E) e t) (largest (λ s. number R s t) (causes (E .levels) (E .events) e))
   unfolding recorded largest
   recorded-at e t l k =
       made-once E (suc e) (size E) e t (le-refl (suc e)) l
       ∙ ap (λ (X : Vectors). number X e t) (recorded-suc E e)
-      ∙ number-set-same (recordedTo E e) e t (gathered E (recordedTo E e) (causes (E .events) e) e) (let r = recordedTo-shaped E e (omega arith) .rows in omega arith)
-      ∙ gathered-at E (recordedTo E e) (causes (E .events) e) e t k
+      ∙ number-set-same (recordedTo E e) e t (gathered E (recordedTo E e) (causes (E .levels) (E .events) e) e) (let r = recordedTo-shaped E e (omega arith) .rows in omega arith)
+      ∙ gathered-at E (recordedTo E e) (causes (E .levels) (E .events) e) e t k
       ∙ ap₂ (λ (a b : ℕ). max a b) (not-yet E e e t (le-refl e))
-      (largest-ext (λ s. number (recordedTo E e) s t) (λ s. number (recordedTo E (size E)) s t) (causes (E .events) e)
+      (largest-ext (λ s. number (recordedTo E e) s t) (λ s. number (recordedTo E (size E)) s t) (causes (E .levels) (E .events) e)
       (λ s h. sym (made-once E e (size E) s t (causes-lower E acc e s l h) (omega arith))))
 
   -- each event has its own position
@@ -154,7 +168,7 @@ module _ (E : Recording) (acc : Accepted E) where
       le-trans (le-of-eq (sym s)) (le-trans (le-max-left _ _) (le-of-eq (sym (recorded-at e (taskOf E e) l k))))
 
   -- an event has at least the numbers of what it follows
-  cause-below : (e s t : ℕ) → e < size E → List·Memᴰ s (causes (E .events) e) → number R s t ≤ number R e t
+  cause-below : (e s t : ℕ) → e < size E → List·Memᴰ s (causes (E .levels) (E .events) e) → number R s t ≤ number R e t
   cause-below e s t l h =
       cases (ltb t (tasks E))
       (λ k.
@@ -177,13 +191,13 @@ module _ (E : Recording) (acc : Accepted E) where
       (λ u. own (subst (λ (v : ℕ). position (E .events) a ≤ v) (start-at E e (taskOf E a) l inside) (leb-true _ _ u)))
       (λ u.
       let over = leb-false (position (E .events) a) (number (start E) e (taskOf E a)) u in
-      let (s, h, r) = largest-reached (λ s. number R s (taskOf E a)) (position (E .events) a) (causes (E .events) e) pos (omega arith) in
+      let (s, h, r) = largest-reached (λ s. number R s (taskOf E a)) (position (E .events) a) (causes (E .levels) (E .events) e) pos (omega arith) in
       through s h r)
     where
       Goal : Type 0
       Goal = number R a t ≤ number R e t
 
-      through : (s : ℕ) → List·Memᴰ s (causes (E .events) e) → position (E .events) a ≤ number R s (taskOf E a) → Goal
+      through : (s : ℕ) → List·Memᴰ s (causes (E .levels) (E .events) e) → position (E .events) a ≤ number R s (taskOf E a) → Goal
       through s h p = le-trans (ih s (causes-lower E acc e s l h) a t k p) (cause-below e s t l h)
 
       -- an event of e's own task, by the event before e in it
@@ -222,7 +236,7 @@ module _ (E : Recording) (acc : Accepted E) where
   up-own x a b h t u =
       le-leb _ _ (le-trans (position-grows E a b h t) (subst (λ (w : ℕ). position (E .events) b ≤ number (recorded E) x w) (sym t) (leb-true _ _ u)))
 
-  pub up-cause : (x a s : ℕ) → x < size E → a < size E → List·Memᴰ s (causes (E .events) a) → upTo E (recorded E) x a ≡ true → upTo E (recorded E) x s ≡ true
+  pub up-cause : (x a s : ℕ) → x < size E → a < size E → List·Memᴰ s (causes (E .levels) (E .events) a) → upTo E (recorded E) x a ≡ true → upTo E (recorded E) x s ≡ true
   up-cause x a s l k h u =
       let m = causes-lower E acc a s k h in
       le-leb _ _

@@ -1,6 +1,6 @@
 -- What the four rules say of an admissible order: which events it must put before which.
 -- Assumes nothing.
-use Prim.Native.Nat.{ℕ, suc, _<_}
+use Prim.Native.Nat.{ℕ, suc, _+_, _<_}
 use mathlib.Core.Path.{_≡_, refl, sym, ap, subst, _∙_}
 use mathlib.Core.Bool.{Bool, true, not, _&&_}
 use mathlib.Core.List.{List, [], _∷_}
@@ -9,7 +9,7 @@ use lib.Dec.{ltb, eqb}
 use lib.ListN.{length, getD, take}
 use Rattle.model.specs.declared.Event.{Event}
 use Rattle.model.specs.Numbers.{bit, tally, count}
-use Rattle.model.specs.Recording.{event, ofTask, isOn, isSignal, isWait, isFork, isJoin, notJoined, forkKept, joinKept, waitKept, lifeKept, obeys, Recording, size, taskOf, kindOf, objectOf, fork, join, wait}
+use Rattle.model.specs.Recording.{Levels, startOf, event, ofTask, isOn, isSignal, isWait, isFork, isJoin, notJoined, forkKept, joinKept, waitKept, lifeKept, obeys, Recording, size, taskOf, kindOf, objectOf, fork, join, wait}
 use Rattle.model.specs.Orders.{place, Precedes, occurrences, rearranged, Obeying, Admissible}
 use Rattle.model.proofs.Tests.{both, first, second, of-not, all-three, implied, tests, compared, eqb-true, eqb-false, eq-eqb, lt-ltb, ltb-true}
 use Rattle.model.proofs.Counting.{count-map}
@@ -18,17 +18,15 @@ use Rattle.model.proofs.Place.{take-map, at-map, place-lt, at-place, st
 
 -- ---- the parts of the rules
 
-module _ (before : List Event) (v : Event) (h : obeys before v ≡ true) where
+module _ (x : Levels) (before : List Event) (v : Event) (h : obeys x before v ≡ true) where
   life : (notJoined before v ≡ true) × (forkKept before v ≡ true) × (joinKept before v ≡ true)
   unfolding obeys lifeKept
-  life = all-three _ _ _ (first (lifeKept before v) (waitKept before v) h)
+  life = all-three _ _ _ (first (lifeKept before v) (waitKept x before v) h)
 
-  -- at a wait there are more signals than waits on its semaphore before it
-  wait-part : eqb (v .kind) wait ≡ true → count (isWait (v .object)) before < count (isSignal (v .object)) before
+  -- at a wait the start count and the signals before it outnumber the waits on its semaphore before it
+  wait-part : eqb (v .kind) wait ≡ true → count (isWait (v .object)) before < startOf x (v .object) + count (isSignal (v .object)) before
   unfolding obeys waitKept
-  wait-part t =
-      ltb-true (count (isWait (v .object)) before) (count (isSignal (v .object)) before)
-      (implied (second (lifeKept before v) (waitKept before v) h) t)
+  wait-part t = let more = implied (second (lifeKept before v) (waitKept x before v) h) t in omega tests
 
 pub kind-is : (k x : ℕ) (v : Event) → isOn k x v ≡ true → eqb (v .kind) k ≡ true
 kind-is k x v t = first (eqb (v .kind) k) (eqb (v .object) x) t
@@ -57,23 +55,23 @@ module _ (E : Recording) (o : List ℕ) (once : (e : ℕ) → occurrences e o �
       ∙ count-take (size E) o once (λ a. q (event E a)) (place o e)
 
   -- the records obey the rules where each event does after those that the order puts before it
-  pub obeying-by : ((e : ℕ) → e < size E → obeys (earlier E o e) (event E e) ≡ true) → Obeying (rearranged E o)
+  pub obeying-by : ((e : ℕ) → e < size E → obeys (E .levels) (earlier E o e) (event E e) ≡ true) → Obeying (E .levels) (rearranged E o)
   obeying-by h i l =
       let n = length-map E o in
       let k : i < length o = omega arith in
       let (inside, here) = element (size E) o once i k in
-      subst (λ (v : Event). obeys (take i (rearranged E o)) v ≡ true) (sym (at-map (event E) i o 0 _ k))
-      (subst (λ (j : ℕ). obeys (take j (rearranged E o)) (event E (getD o i 0)) ≡ true) here (h (getD o i 0) inside))
+      subst (λ (v : Event). obeys (E .levels) (take i (rearranged E o)) v ≡ true) (sym (at-map (event E) i o 0 _ k))
+      (subst (λ (j : ℕ). obeys (E .levels) (take j (rearranged E o)) (event E (getD o i 0)) ≡ true) here (h (getD o i 0) inside))
 
 -- ---- an admissible order
 
 module _ (E : Recording) (o : List ℕ) (adm : Admissible E o) where
-  rule-at : (e : ℕ) → e < size E → obeys (earlier E o e) (event E e) ≡ true
+  rule-at : (e : ℕ) → e < size E → obeys (E .levels) (earlier E o e) (event E e) ≡ true
   rule-at e l =
       let s = stands (size E) o (adm .once) e l in
       let k = place-lt e o (omega arith) in
       let n = length-map E o in
-      subst (λ (v : Event). obeys (earlier E o e) v ≡ true)
+      subst (λ (v : Event). obeys (E .levels) (earlier E o e) v ≡ true)
       (at-map (event E) (place o e) o 0 _ k ∙ ap (event E) (at-place e o (omega arith)))
       (adm .rules (place o e) (omega arith))
 
@@ -98,13 +96,13 @@ module _ (E : Recording) (o : List ℕ) (adm : Admissible E o) where
       → (not (eqb (objectOf E f) (taskOf E f)) ≡ true)
       × (eqb (count (isFork (objectOf E f)) (earlier E o f)) 0 ≡ true)
       × (eqb (count (ofTask (objectOf E f)) (earlier E o f)) 0 ≡ true)
-  fork-rest f l t = all-three _ _ _ (implied (life (earlier E o f) (event E f) (rule-at f l) .1) t)
+  fork-rest f l t = all-three _ _ _ (implied (life (E .levels) (earlier E o f) (event E f) (rule-at f l) .1) t)
 
   join-rest : (j : ℕ) → j < size E → eqb (kindOf E j) join ≡ true
       → (not (eqb (objectOf E j) (taskOf E j)) ≡ true)
       × (ltb 0 (count (isFork (objectOf E j)) (earlier E o j)) ≡ true)
       × (eqb (count (isJoin (objectOf E j)) (earlier E o j)) 0 ≡ true)
-  join-rest j l t = all-three _ _ _ (implied (life (earlier E o j) (event E j) (rule-at j l) .2) t)
+  join-rest j l t = all-three _ _ _ (implied (life (E .levels) (earlier E o j) (event E j) (rule-at j l) .2) t)
 
   pub fork-other : (f : ℕ) → f < size E → eqb (kindOf E f) fork ≡ true → ¬ (objectOf E f ≡ taskOf E f)
   fork-other f l t = eqb-false (objectOf E f) (taskOf E f) (of-not _ (fork-rest f l t .0))
@@ -126,7 +124,7 @@ module _ (E : Recording) (o : List ℕ) (adm : Admissible E o) where
       let kind = kind-is 4 (taskOf E e) (event E j) t in
       let named = object-is 4 (taskOf E e) (event E j) t in
       turned e j l k (λ q. join-other j k kind (named ∙ ap (taskOf E) q))
-      (λ p. nothing-before (isJoin (taskOf E e)) e j (life (earlier E o e) (event E e) (rule-at e l) .0) k t p)
+      (λ p. nothing-before (isJoin (taskOf E e)) e j (life (E .levels) (earlier E o e) (event E e) (rule-at e l) .0) k t p)
 
   -- a join's fork is before it
   pub join-forked : (j : ℕ) → j < size E → eqb (kindOf E j) join ≡ true → (f : ℕ) × (f < size E) × (isFork (objectOf E j) (event E f) ≡ true) × Precedes o f j
@@ -153,12 +151,12 @@ module _ (E : Recording) (o : List ℕ) (adm : Admissible E o) where
   pub one-join : (t f g : ℕ) → f < size E → g < size E → isJoin t (event E f) ≡ true → isJoin t (event E g) ≡ true → f ≡ g
   one-join = one-of 4 (λ g l t. join-rest g l t .2)
 
-  -- before a wait there are more signals than waits on its semaphore
+  -- before a wait the start count and the signals outnumber the waits on its semaphore
   pub wait-served : (e : ℕ) → e < size E → eqb (kindOf E e) wait ≡ true
       → tally (λ a. isWait (objectOf E e) (event E a) && sooner o a e) (size E)
-      < tally (λ a. isSignal (objectOf E e) (event E a) && sooner o a e) (size E)
+      < startOf (E .levels) (objectOf E e) + tally (λ a. isSignal (objectOf E e) (event E a) && sooner o a e) (size E)
   wait-served e l t =
-      let h = wait-part (earlier E o e) (event E e) (rule-at e l) t in
+      let h = wait-part (E .levels) (earlier E o e) (event E e) (rule-at e l) t in
       let w = count-earlier E o (adm .once) (isWait (objectOf E e)) e in
       let s = count-earlier E o (adm .once) (isSignal (objectOf E e)) e in
       omega arith

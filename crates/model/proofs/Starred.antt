@@ -1,9 +1,10 @@
--- The starred recordings and the edge files: each row computes.
+-- The starred recordings, those with start counts, and the edge files: each row computes.
 -- Assumes nothing.
 use mathlib.Core.Path.{refl}
 use Rattle.model.specs.declared.Refusal.{Refusal}
 use Rattle.model.specs.declared.Reading.{Reading}
 use Rattle.model.specs.Rows.Starred.{Starred, Edges}
+use Rattle.model.specs.Rows.Started.{Started}
 use Rattle.model.proofs.Computing.{rows, refusal}
 
 pub starred : Starred
@@ -22,6 +23,30 @@ starred = record {
   h = refl;
   i = refusal Reading.Refused (Refusal.Life 0);
   j = refusal Reading.Refused (Refusal.Empty 0);
+}
+
+pub started : Started
+unfolding rows
+started = record {
+  served-by-signal = (refl, refl);
+  served-by-start = (refl, refl);
+  second-wait = (refl, refl);
+  one-of-two = (refl, refl);
+  as-many = refl;
+  one-more = refusal Reading.Refused (Refusal.Empty 1);
+  second-wait-recorded = refl;
+  one-of-two-recorded = refl;
+  own-count = refl;
+  other-count = refusal Reading.Refused (Refusal.Empty 0);
+  count-255 = refl;
+  edition-0 = refusal Reading.Refused Refusal.Edition;
+  no-semaphore = refl;
+  starts-missing = refusal Reading.Refused Refusal.Extent;
+  starts-more = refusal Reading.Refused Refusal.Extent;
+  starts-edition-1 = refusal Reading.Refused Refusal.Extent;
+  semaphores-64 = refl;
+  semaphores-65 = refusal Reading.Refused Refusal.Count;
+  wraps = refusal Reading.Refused Refusal.Extent;
 }
 
 pub edges : Edges

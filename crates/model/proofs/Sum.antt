@@ -1,13 +1,13 @@
 -- Laws of sums and tallies over the numbers below n.
 -- Assumes nothing.
-use Prim.Native.Nat.{ℕ, zero, suc, _+_, _*_, _≤_, _<_, zero-le}
+use Prim.Native.Nat.{ℕ, zero, suc, _+_, _*_, _≤_, _<_, min, zero-le}
 use mathlib.Core.Path.{_≡_, refl, sym, ap, ap₂, subst, _∙_}
 use mathlib.Core.Bool.{Bool, true, false, cond, not, _&&_}
 use native.Mathlib.Nat.{le-refl, le-of-eq, add-le-add, not-suc-le-zero, suc-mul}
 use native.Mathlib.Omega.{arith}
 use lib.Dec.{ltb, eqb}
 use Rattle.model.specs.Numbers.{bit, sum, tally}
-use Rattle.model.proofs.Tests.{cases, to-not, both, first, and-true, and-fails, bit-false, bit-le, tests, bits, compared, last-or-lower, eqb-true, eq-eqb, ne-eqb, lt-ltb, le-ltb}
+use Rattle.model.proofs.Tests.{cases, to-not, both, first, and-true, and-fails, bit-false, bit-le, tests, bits, compared, last-or-lower, eqb-true, eq-eqb, ne-eqb, lt-ltb, le-ltb, bit-true, ltb-true, ltb-false}
 
 -- ---- sums
 
@@ -135,7 +135,30 @@ tally-cut q m (suc n) h =
     let k = tally-cut q m n (omega tests) in
     let z = bit-false (and-fails (q n) (le-ltb n m (omega tests))) in omega arith)
 
+-- those that pass a second test, and those that do not
+pub tally-split : (p q : ℕ → Bool) (n : ℕ) → tally p n ≡ tally (λ e. p e && q e) n + tally (λ e. p e && not (q e)) n
+tally-split p q n =
+    sum-ext (λ e. bit (p e)) (λ e. bit (p e && q e) + bit (p e && not (q e))) n (λ e l. term (p e) (q e))
+    ∙ sum-add (λ e. bit (p e && q e)) (λ e. bit (p e && not (q e))) n
+  where
+    term : (a b : Bool) → bit a ≡ bit (a && b) + bit (a && not b)
+    term true true = refl
+    term true false = refl
+    term false b = refl
+
 -- ---- ranks
+
+-- those of rank below k are k, or all where they are fewer
+pub tally-first : (p : ℕ → Bool) (k n : ℕ) → tally (λ a. p a && ltb (tally p a) k) n ≡ min k (tally p n)
+unfolding sum
+tally-first p k zero = omega arith
+tally-first p k (suc n) =
+    let h = tally-first p k n in
+    cases (p n)
+    (λ t.
+    cases (ltb (tally p n) k) (λ u. let b = bit-true (both t u) in let c = ltb-true (tally p n) k u in omega bits)
+    (λ u. let b = bit-false (and-fails (p n) u) in let c = ltb-false (tally p n) k u in omega bits))
+    (λ t. let b : bit (p n && ltb (tally p n) k) ≡ 0 = rw t in omega bits)
 
 -- the number of rank k among those that pass
 pub ranked : (p : ℕ → Bool) (n k : ℕ) → k < tally p n → (s : ℕ) × (s < n) × (p s ≡ true) × (tally p s ≡ k)

@@ -86,7 +86,7 @@ refusal-length r =
 
 -- ---- the lines of the entries
 
-lines-length : (E : Recording) (l : List Entry) → ((p : Entry) → List·Memᴰ p l → length (entryText E p) ≤ 25) → length (entriesText E l) ≤ 25 * length l
+lines-length : (E : Recording) (l : List Entry) → ((p : Entry) → List·Memᴰ p l → length (entryText (E .events) p) ≤ 25) → length (entriesText (E .events) l) ≤ 25 * length l
 unfolding entriesText
 lines-length E [] h = zero-le
 lines-length E (p ∷ l) h =
@@ -94,7 +94,7 @@ lines-length E (p ∷ l) h =
     let y = lines-length E l (λ q m. h q (List·Memᴰ·tail m)) in
     simp length-append (omega arith)
 
-listed-length : (E : Recording) → size E ≤ mostEvents → cells E ≤ mostCells → (budget : ℕ) (p : Entry) → List·Memᴰ p (listed E budget) → length (entryText E p) ≤ 25
+listed-length : (E : Recording) → size E ≤ mostEvents → cells E ≤ mostCells → (budget : ℕ) (p : Entry) → List·Memᴰ p (listed E budget) → length (entryText (E .events) p) ≤ 25
 unfolding entryText listed
 listed-length E n c budget p m =
     let r = entry-of E (safeVectors E budget) (recorded E) p m in

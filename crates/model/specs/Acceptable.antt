@@ -1,4 +1,4 @@
--- A file is accepted exactly when its rules hold (document 01, The recording file and What an acceptable recording obeys).
+-- A file is accepted exactly when its rules hold (document 01, The recording file and What an acceptable recording obeys; 02, No. 1).
 -- The rules are in the order of the refusal table, 1 to 8; the tests that they cite are those of reading and of admissible orders.
 -- Assumes nothing.
 use Prim.Native.Nat.{ℕ, _+_, _*_, _≤_, _<_}
@@ -10,8 +10,8 @@ use lib.ListN.{length, take}
 use Rattle.model.specs.declared.Counts.{Counts}
 use Rattle.model.specs.declared.Reading.{Reading}
 use Rattle.model.specs.Recording.{Recording, event, knownKind, named, obeys}
-use Rattle.model.specs.File.{trailerOf, editionOf, recordingOf}
-use Rattle.model.specs.Reading.{mostTasks, mostSemaphores, mostCells, mostEvents, readingOf}
+use Rattle.model.specs.File.{trailerOf, levelCount, recordingOf}
+use Rattle.model.specs.Reading.{lastEdition, mostTasks, mostSemaphores, mostCells, mostEvents, readingOf}
 
 -- the counts of a file with n records are within their ranges
 pub record InRange (c : Counts) (n : ℕ) : Type 0 where
@@ -32,16 +32,17 @@ pub record Kept (E : Recording) (e : ℕ) : Type 0 where
   -- its task and its object are below their counts
   pub names : named (E .counts) (event E e) ≡ true
   -- the four rules, over the records before it
-  pub rules : obeys (take e (E .events)) (event E e) ≡ true
+  pub rules : obeys (E .levels) (take e (E .events)) (event E e) ≡ true
 
 -- the rules of a file
 pub record Acceptable (f : List ℕ) : Type 0 where
   -- it has the 16 bytes of a trailer
   pub long : 16 ≤ length f
-  -- its edition is 1
-  pub edition : editionOf f ≡ 1
-  -- start + 4 × N = length - 16, as whole numbers
-  pub extent : trailerOf f .start + 4 * trailerOf f .records + 16 ≡ length f
+  -- its edition is 1 or 2
+  pub some-edition : 1 ≤ trailerOf f .counts .edition
+  pub no-later : trailerOf f .counts .edition ≤ lastEdition
+  -- start + 4 × N, and in edition 2 a byte for each semaphore, = length - 16, as whole numbers
+  pub extent : trailerOf f .start + 4 * trailerOf f .records + levelCount (trailerOf f .counts) + 16 ≡ length f
   -- its counts are within their ranges
   pub range : InRange (trailerOf f .counts) (trailerOf f .records)
   -- each of its N records obeys the rules

@@ -1,14 +1,17 @@
--- The recording file (document 01, The recording file): a preamble, records of 4 bytes, a trailer of 16 bytes.
+-- The recording file (document 01, The recording file; 02, No. 1): a preamble, records of 4 bytes, in edition 2 a byte for each
+-- semaphore, a trailer of 16 bytes.
 -- Numbers are little-endian. Past the end of a list of bytes a byte counts as 0.
 -- Assumes nothing.
 use Prim.Native.Nat.{ℕ, _+_, _-_, _*_, _/_}
+use mathlib.Core.Bool.{cond}
 use mathlib.Core.List.{List}
+use lib.Dec.{eqb}
 use lib.ListN.{length, getD, take, drop}
 use Rattle.model.specs.declared.Event.{Event}
 use Rattle.model.specs.declared.Counts.{Counts}
 use Rattle.model.specs.declared.Trailer.{Trailer}
 use Rattle.model.specs.Numbers.{listOf}
-use Rattle.model.specs.Recording.{Recording}
+use Rattle.model.specs.Recording.{Levels, Recording}
 
 -- the number of two bytes at i
 unfoldable pub u16At : List ℕ → ℕ → ℕ
@@ -36,20 +39,35 @@ trailerOf f =
     record {
       start = u32At f (trailerAt f);
       records = u32At f (trailerAt f + 4);
-      counts = record { tasks = u16At f (trailerAt f + 8); semaphores = u16At f (trailerAt f + 10); cells = u16At f (trailerAt f + 12) };
+      counts =
+          record {
+            tasks = u16At f (trailerAt f + 8);
+            semaphores = u16At f (trailerAt f + 10);
+            cells = u16At f (trailerAt f + 12);
+            edition = u16At f (trailerAt f + 14);
+          };
     }
-
-unfoldable pub editionOf : List ℕ → ℕ
-editionOf f = u16At f (trailerAt f + 14)
 
 -- the records' part of a file with this trailer
 unfoldable pub recordBytes : List ℕ → Trailer → List ℕ
 recordBytes f h = take (4 * h .records) (drop (h .start) f)
 
--- the recording of these record bytes and counts
-abbrev pub recordingBy : List ℕ → Counts → Recording
-recordingBy s c = record { counts = c; events = eventsOf s }
+-- how many level bytes stand between the last record and the trailer: in edition 1 none, in edition 2 one for each semaphore
+unfoldable pub levelCount : Counts → ℕ
+levelCount c = cond (eqb (c .edition) 1) 0 (c .semaphores)
+
+-- that part of a file with this trailer
+unfoldable pub levelBytes : List ℕ → Trailer → List ℕ
+levelBytes f h = take (levelCount (h .counts)) (drop (h .start + 4 * h .records) f)
+
+-- the levels that these bytes give
+abbrev pub levelsBy : List ℕ → Levels
+levelsBy b = record { starts = b }
+
+-- the recording of these record bytes, counts and level bytes
+abbrev pub recordingBy : List ℕ → Counts → List ℕ → Recording
+recordingBy s c b = record { counts = c; levels = levelsBy b; events = eventsOf s }
 
 -- the recording that a file holds
 unfoldable pub recordingOf : List ℕ → Recording
-recordingOf f = recordingBy (recordBytes f (trailerOf f)) (trailerOf f .counts)
+recordingOf f = recordingBy (recordBytes f (trailerOf f)) (trailerOf f .counts) (levelBytes f (trailerOf f))

@@ -17,6 +17,7 @@ pub mod Text
 pub mod Report
 pub mod Uncut
 pub mod RoundTrip
+pub mod Editions
 pub mod Promise
 pub mod Questions
 pub mod Rows

@@ -8,7 +8,7 @@ use lib.Dec.{ltb, eqb}
 use lib.ListN.{length, getD, take}
 use Rattle.model.specs.declared.Event.{Event}
 use Rattle.model.specs.Numbers.{bit, count}
-use Rattle.model.specs.Recording.{Recording, size, noEvent, event, taskOf, obeys}
+use Rattle.model.specs.Recording.{Levels, Recording, size, noEvent, event, taskOf, obeys}
 
 -- where the order puts event e; its length where it does not have it
 unfoldable pub place : List ℕ → ℕ → ℕ
@@ -28,14 +28,14 @@ abbrev pub rearranged : Recording → List ℕ → List Event
 rearranged E o = map (event E) o
 
 -- each record obeys the four rules after those before it
-abbrev pub Obeying : List Event → Type 0
-Obeying l = (i : ℕ) → i < length l → obeys (take i l) (getD l i noEvent) ≡ true
+abbrev pub Obeying : Levels → List Event → Type 0
+Obeying x l = (i : ℕ) → i < length l → obeys x (take i l) (getD l i noEvent) ≡ true
 
 -- an admissible order: each event once, each task's own order kept, the rules obeyed
 pub record Admissible (E : Recording) (o : List ℕ) : Type 0 where
   pub once : (e : ℕ) → occurrences e o ≡ bit (ltb e (size E))
   pub own : (a b : ℕ) → a < b → b < size E → taskOf E a ≡ taskOf E b → Precedes o a b
-  pub rules : Obeying (rearranged E o)
+  pub rules : Obeying (E .levels) (rearranged E o)
 
 -- a comes first in every admissible order
 abbrev pub Always : Recording → ℕ → ℕ → Type 0

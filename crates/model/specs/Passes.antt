@@ -1,6 +1,6 @@
--- Passes and safe vectors (document 01).
+-- Passes and safe vectors (document 01; 02, No. 1).
 -- Assumes nothing.
-use Prim.Native.Nat.{ℕ, zero, suc, max}
+use Prim.Native.Nat.{ℕ, zero, suc, _-_, max}
 use mathlib.Core.Bool.{Bool, true, false, not, _&&_}
 use mathlib.Core.List.{List, [], _∷_, _++_, map}
 use lib.Dec.{eqb}
@@ -8,7 +8,7 @@ use lib.ListN.{length, set}
 use Rattle.model.specs.declared.Event.{Event}
 use Rattle.model.specs.declared.Found.{Found}
 use Rattle.model.specs.Numbers.{count, filter, listOf, picked, lastOf, found, largest, kthLeast}
-use Rattle.model.specs.Recording.{Recording, size, tasks, eventIn, kindOf, objectOf, wait, join, ofTask, isSignal, isWait, isFork}
+use Rattle.model.specs.Recording.{startOf, Recording, size, tasks, eventIn, kindOf, objectOf, wait, join, ofTask, isSignal, isWait, isFork}
 use Rattle.model.specs.Vectors.{Vectors, number, start, ordered}
 
 -- ---- step 1: the events whose vectors e takes the largest of
@@ -59,9 +59,10 @@ signalsOn l s = picked (λ a. isSignal s (eventIn l a)) (length l)
 unfoldable pub waitsOn : List Event → ℕ → List ℕ
 waitsOn l s = picked (λ a. isWait s (eventIn l a)) (length l)
 
--- k of a wait e on s: 1 plus the waits on s ordered before e
+-- k of a wait e on s: 1 plus the waits on s ordered before e, lowered by the start count of s; 0, which raises nothing, where that is
+-- 0 or less
 abbrev pub kOf : Recording → Vectors → ℕ → ℕ → ℕ
-kOf E X e s = suc (count (λ w. ordered (E .events) X w e) (waitsOn (E .events) s))
+kOf E X e s = suc (count (λ w. ordered (E .events) X w e) (waitsOn (E .events) s)) - startOf (E .levels) s
 
 -- k of an event; 0, which raises nothing, where it is no wait
 abbrev pub kWhere : Recording → Vectors → ℕ → Bool → ℕ

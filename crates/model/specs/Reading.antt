@@ -1,4 +1,4 @@
--- Reading a file: refusals 1 to 8 in the table's order, the preamble, and the records' part.
+-- Reading a file: refusals 1 to 8 in the table's order, the preamble, the records' part, and the start bytes.
 -- Assumes nothing.
 use Prim.Native.Nat.{ℕ, _+_, _*_}
 use mathlib.Core.Bool.{Bool, _&&_}
@@ -12,11 +12,19 @@ use Rattle.model.specs.declared.Check.{Check}
 use Rattle.model.specs.declared.Reading.{Reading}
 use Rattle.model.specs.Refusals.{unless, after}
 use Rattle.model.specs.Recording.{size, firstFault}
-use Rattle.model.specs.File.{trailerAt, trailerOf, editionOf, recordBytes, recordingOf}
+use Rattle.model.specs.File.{trailerAt, trailerOf, recordBytes, levelCount, levelBytes, recordingOf}
 
--- start + 4 × N = length - 16, as whole numbers
+-- the last edition; the first is 1
+abbrev pub lastEdition : ℕ
+lastEdition = 2
+
+-- a known edition, 1 or 2
+unfoldable pub knownEdition : Counts → Bool
+knownEdition c = leb 1 (c .edition) && leb (c .edition) lastEdition
+
+-- start + 4 × N + the level bytes = length - 16, as whole numbers
 unfoldable pub extentMet : List ℕ → Bool
-extentMet f = eqb (trailerOf f .start + 4 * trailerOf f .records) (trailerAt f)
+extentMet f = eqb (trailerOf f .start + 4 * trailerOf f .records + levelCount (trailerOf f .counts)) (trailerAt f)
 
 -- the most tasks, semaphores, cells and events that a recording has
 abbrev pub mostTasks : ℕ
@@ -40,7 +48,7 @@ inRange c n =
 unfoldable pub fileCheck : List ℕ → Check
 fileCheck f =
     unless (leb 16 (length f)) Refusal.Short λ _.
-    unless (eqb (editionOf f) 1) Refusal.Edition λ _.
+    unless (knownEdition (trailerOf f .counts)) Refusal.Edition λ _.
     unless (extentMet f) Refusal.Extent λ _.
     unless (inRange (trailerOf f .counts) (trailerOf f .records)) Refusal.Count λ _.
     let E = recordingOf f in firstFault E (size E)
@@ -60,3 +68,7 @@ preambleOf f = after (fileCheck f) (λ _. take (trailerOf f .start) f) []
 -- the records' part of the file; of a refused file, the empty part
 unfoldable pub recordsOf : List ℕ → List ℕ
 recordsOf f = after (fileCheck f) (λ _. recordBytes f (trailerOf f)) []
+
+-- the start bytes' part of the file; of a refused file, as of edition 1, the empty part
+unfoldable pub startsOf : List ℕ → List ℕ
+startsOf f = after (fileCheck f) (λ _. levelBytes f (trailerOf f)) []

@@ -1,6 +1,6 @@
--- A recording, the four rules, and the first faulty record (document 01, What an acceptable recording obeys).
+-- A recording, the four rules, and the first faulty record (document 01, What an acceptable recording obeys; 02, No. 1).
 -- Assumes nothing.
-use Prim.Native.Nat.{ℕ, zero, suc}
+use Prim.Native.Nat.{ℕ, zero, suc, _+_}
 use mathlib.Core.Path.{_≡_}
 use mathlib.Core.Bool.{Bool, true, false, not, _&&_}
 use mathlib.Core.List.{List, [], _∷_}
@@ -14,9 +14,18 @@ use Rattle.model.specs.declared.Check.{Check}
 use Rattle.model.specs.Numbers.{count}
 use Rattle.model.specs.Refusals.{unless, andThen}
 
--- a recording: how many tasks, semaphores and cells it names, and its events in file order
+-- what a file gives for each semaphore: its start count
+pub record Levels : Type 0 where
+  pub starts : List ℕ
+
+-- the start count of semaphore s; 0 where none is given, as in edition 1
+abbrev pub startOf : Levels → ℕ → ℕ
+startOf x s = getD (x .starts) s 0
+
+-- a recording: how many tasks, semaphores and cells it names, its levels, and its events in file order
 pub record Recording : Type 0 where
   pub counts : Counts
+  pub levels : Levels
   pub events : List Event
 
 -- N, T and the number of cells
@@ -87,7 +96,7 @@ isFork t v = isOn fork t v
 abbrev pub isJoin : ℕ → Event → Bool
 isJoin t v = isOn join t v
 
--- ---- the four rules, for the event v after the events `before`
+-- ---- the four rules, for the event v after the events `before`, in a recording with the levels x
 
 abbrev pub implies : Bool → Bool → Bool
 implies true b = b
@@ -109,17 +118,19 @@ joinKept before v =
     implies (eqb (v .kind) join)
     (not (eqb (v .object) (v .task)) && ltb 0 (count (isFork (v .object)) before) && eqb (count (isJoin (v .object)) before) 0)
 
--- at a wait, the earlier signals on that semaphore outnumber the earlier waits on it
-unfoldable pub waitKept : List Event → Event → Bool
-waitKept before v = implies (eqb (v .kind) wait) (ltb (count (isWait (v .object)) before) (count (isSignal (v .object)) before))
+-- at a wait, the start count of that semaphore and the earlier signals on it together outnumber the earlier waits on it
+unfoldable pub waitKept : Levels → List Event → Event → Bool
+waitKept x before v =
+    implies (eqb (v .kind) wait)
+    (ltb (count (isWait (v .object)) before) (startOf x (v .object) + count (isSignal (v .object)) before))
 
 -- the first three rules
 unfoldable pub lifeKept : List Event → Event → Bool
 lifeKept before v = notJoined before v && forkKept before v && joinKept before v
 
 -- all four
-unfoldable pub obeys : List Event → Event → Bool
-obeys before v = lifeKept before v && waitKept before v
+unfoldable pub obeys : Levels → List Event → Event → Bool
+obeys x before v = lifeKept before v && waitKept x before v
 
 -- ---- the first faulty record
 
@@ -146,19 +157,19 @@ unfoldable pub named : Counts → Event → Bool
 named c v = ltb (v .task) (c .tasks) && ltb (v .object) (namesOf c (classOf (v .kind)))
 
 -- the check of the event v after the events `before`, whose number is that of the record
-unfoldable pub recordCheck : Counts → List Event → Event → Check
-recordCheck c before v =
+unfoldable pub recordCheck : Counts → Levels → List Event → Event → Check
+recordCheck c x before v =
     let e = length before in
     unless (knownKind v) (Refusal.Kind e) λ _.
     unless (named c v) (Refusal.Name e) λ _.
     unless (lifeKept before v) (Refusal.Life e) λ _.
-    unless (waitKept before v) (Refusal.Empty e) λ _.
+    unless (waitKept x before v) (Refusal.Empty e) λ _.
     Check.Passed
 
 -- the first faulty record among the first n
 unfoldable pub firstFault : Recording → ℕ → Check
 firstFault E zero = Check.Passed
-firstFault E (suc n) = andThen (firstFault E n) λ _. recordCheck (E .counts) (take n (E .events)) (event E n)
+firstFault E (suc n) = andThen (firstFault E n) λ _. recordCheck (E .counts) (E .levels) (take n (E .events)) (event E n)
 
 -- an acceptable recording
 unfoldable pub Accepted : Recording → Type 0

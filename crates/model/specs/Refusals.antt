@@ -1,4 +1,4 @@
--- The refusal table (document 01, Refusal table), and checks made in its order.
+-- The refusal table (document 01, Refusal table; 02, No. 1), and checks made in its order.
 -- Assumes nothing.
 use Prim.Native.Nat.{ℕ}
 use mathlib.Core.Bool.{Bool, true, false}
@@ -19,6 +19,7 @@ numberOf Refusal.Work = 9
 numberOf (Refusal.List n) = 10
 numberOf Refusal.Event = 11
 numberOf Refusal.Out = 12
+numberOf Refusal.Starts = 13
 
 -- the faulty record; 0 where no record is at fault
 abbrev pub recordOf : Refusal → ℕ
@@ -34,6 +35,7 @@ recordOf Refusal.Work = 0
 recordOf (Refusal.List n) = 0
 recordOf Refusal.Event = 0
 recordOf Refusal.Out = 0
+recordOf Refusal.Starts = 0
 
 -- the pairs needed, which 10 also returns
 abbrev pub pairsOf : Refusal → ℕ
@@ -49,6 +51,7 @@ pairsOf Refusal.Work = 0
 pairsOf (Refusal.List n) = n
 pairsOf Refusal.Event = 0
 pairsOf Refusal.Out = 0
+pairsOf Refusal.Starts = 0
 
 -- Tests are made in the table's order, and what follows a test is computed only where it passes.
 

@@ -6,10 +6,11 @@ use mathlib.Core.Bool.{Bool, true, false}
 use mathlib.Core.List.{List, [], _∷_, _++_}
 use lib.Dec.{ltb, eqb}
 use lib.ListN.{length, take, drop}
+use Rattle.model.specs.declared.Event.{Event}
 use Rattle.model.specs.declared.Refusal.{Refusal}
 use Rattle.model.specs.declared.Check.{Check}
 use Rattle.model.specs.Refusals.{numberOf, recordOf}
-use Rattle.model.specs.Recording.{Recording, size, tasks, objectOf}
+use Rattle.model.specs.Recording.{Recording, size, tasks, eventIn}
 use Rattle.model.specs.File.{recordingOf}
 use Rattle.model.specs.Passes.{run}
 use Rattle.model.specs.Pairs.{Entry, listed}
@@ -39,13 +40,13 @@ unfoldable pub entryLine : ℕ → ℕ → ℕ → ℕ → List ℕ
 entryLine cell a b m = field "cell " cell ++ field " " a ++ field " " b ++ bytes " " ++ markWord (eqb m 1) ++ bytes "\n"
 
 -- the line of an entry in a recording
-unfoldable pub entryText : Recording → Entry → List ℕ
-entryText E p = entryLine (objectOf E (p .first)) (p .first) (p .second) (p .mark)
+unfoldable pub entryText : List Event → Entry → List ℕ
+entryText l p = entryLine (eventIn l (p .first) .object) (p .first) (p .second) (p .mark)
 
 -- one line for each entry
-unfoldable pub entriesText : Recording → List Entry → List ℕ
-entriesText E [] = []
-entriesText E (p ∷ l) = entryText E p ++ entriesText E l
+unfoldable pub entriesText : List Event → List Entry → List ℕ
+entriesText l [] = []
+entriesText l (p ∷ es) = entryText l p ++ entriesText l es
 
 -- the line of a refusal: number, then record
 unfoldable pub refusalLine : Refusal → List ℕ
@@ -58,7 +59,7 @@ budgetOf E = size E * size E + 1
 -- the report of an analysis with a budget
 unfoldable pub resultText : Recording → ℕ → List ℕ
 resultText E budget =
-    resultLine (size E) (tasks E) (run E budget .passes) (run E budget .settled) (length (listed E budget)) ++ entriesText E (listed E budget)
+    resultLine (size E) (tasks E) (run E budget .passes) (run E budget .settled) (length (listed E budget)) ++ entriesText (E .events) (listed E budget)
 
 -- of a recording that passes, the result; else the refusal
 abbrev pub reportBy : Recording → ℕ → Check → List ℕ

@@ -1,6 +1,7 @@
 -- Rows: what the definitions give on concrete files and calls, each proved by computing it, so that no definition is left free.
 -- Proved in proofs/Starred.antt, proofs/Rows.antt and proofs/Instance.antt. Assumes nothing.
 pub mod Starred
+pub mod Started
 pub mod Instance
 pub mod Faults
 pub mod Parts

@@ -1,6 +1,7 @@
--- Writing a file (document 01, Two events, writing, printing).
+-- Writing a file (document 01, Two events, writing, printing; 02, No. 1): of record bytes s, counts c and start bytes b.
 -- Assumes nothing.
 use Prim.Native.Nat.{ℕ, _+_, _/_, _%_}
+use mathlib.Core.Bool.{Bool}
 use mathlib.Core.List.{List, [], _∷_, _++_}
 use lib.Dec.{leb, eqb}
 use lib.ListN.{length, drop}
@@ -10,8 +11,8 @@ use Rattle.model.specs.declared.Check.{Check}
 use Rattle.model.specs.declared.Written.{Written}
 use Rattle.model.specs.Refusals.{unless, andThen, after}
 use Rattle.model.specs.Recording.{size, firstFault}
-use Rattle.model.specs.File.{recordingBy}
-use Rattle.model.specs.Reading.{inRange}
+use Rattle.model.specs.File.{levelCount, recordingBy}
+use Rattle.model.specs.Reading.{knownEdition, inRange}
 
 -- a number as two bytes, and as four
 abbrev pub u16Bytes : ℕ → List ℕ
@@ -20,34 +21,44 @@ u16Bytes n = n % 256 ∷ n / 256 % 256 ∷ []
 abbrev pub u32Bytes : ℕ → List ℕ
 u32Bytes n = u16Bytes (n % 65536) ++ u16Bytes (n / 65536)
 
--- the trailer of a file with start 0 and edition 1
+-- the trailer of a file with start 0
 unfoldable pub trailerBytes : ℕ → Counts → List ℕ
 trailerBytes n c =
-    u32Bytes 0 ++ u32Bytes n ++ u16Bytes (c .tasks) ++ u16Bytes (c .semaphores) ++ u16Bytes (c .cells) ++ u16Bytes 1
+    u32Bytes 0 ++ u32Bytes n ++ u16Bytes (c .tasks) ++ u16Bytes (c .semaphores) ++ u16Bytes (c .cells) ++ u16Bytes (c .edition)
 
--- the file of these record bytes and counts
-unfoldable pub fileOf : List ℕ → Counts → List ℕ
-fileOf s c = s ++ trailerBytes (length s / 4) c
+-- the file: records, start bytes, trailer
+unfoldable pub fileOf : List ℕ → Counts → List ℕ → List ℕ
+fileOf s c b = s ++ b ++ trailerBytes (length s / 4) c
 
--- the checks that reading the file would make: 3, 4, then the first faulty record by 5 to 8
-unfoldable pub recordsCheck : List ℕ → Counts → Check
-recordsCheck s c =
+-- its length
+abbrev pub fileLength : List ℕ → List ℕ → ℕ
+fileLength s b = length s + length b + 16
+
+-- the start bytes are as many as the edition takes: 1 none, 2 one for each semaphore
+unfoldable pub startsFit : Counts → List ℕ → Bool
+startsFit c b = eqb (length b) (levelCount c)
+
+-- the checks of what the file would hold: 2, 3, 4, 13, then the first faulty record by 5 to 8
+unfoldable pub recordsCheck : List ℕ → Counts → List ℕ → Check
+recordsCheck s c b =
+    unless (knownEdition c) Refusal.Edition λ _.
     unless (eqb (length s % 4) 0) Refusal.Extent λ _.
     unless (inRange c (length s / 4)) Refusal.Count λ _.
-    let E = recordingBy s c in firstFault E (size E)
+    unless (startsFit c b) Refusal.Starts λ _.
+    let E = recordingBy s c b in firstFault E (size E)
 
 -- then 12
-unfoldable pub writingCheck : List ℕ → Counts → List ℕ → Check
-writingCheck s c out = andThen (recordsCheck s c) λ _. unless (leb (length s + 16) (length out)) Refusal.Out λ _. Check.Passed
+unfoldable pub writingCheck : List ℕ → Counts → List ℕ → List ℕ → Check
+writingCheck s c b out = andThen (recordsCheck s c b) λ _. unless (leb (fileLength s b) (length out)) Refusal.Out λ _. Check.Passed
 
-abbrev pub writtenBy : List ℕ → Check → Written
-writtenBy s Check.Passed = Written.Length (length s + 16)
-writtenBy s (Check.Failed r) = Written.Refused r
+abbrev pub writtenBy : ℕ → Check → Written
+writtenBy n Check.Passed = Written.Length n
+writtenBy n (Check.Failed r) = Written.Refused r
 
 -- what writing answers
-unfoldable pub writtenOf : List ℕ → Counts → List ℕ → Written
-writtenOf s c out = writtenBy s (writingCheck s c out)
+unfoldable pub writtenOf : List ℕ → Counts → List ℕ → List ℕ → Written
+writtenOf s c b out = writtenBy (fileLength s b) (writingCheck s c b out)
 
 -- the output after writing: the file, and beyond it what was there
-unfoldable pub outAfterWriting : List ℕ → Counts → List ℕ → List ℕ
-outAfterWriting s c out = after (writingCheck s c out) (λ _. fileOf s c ++ drop (length s + 16) out) out
+unfoldable pub outAfterWriting : List ℕ → Counts → List ℕ → List ℕ → List ℕ
+outAfterWriting s c b out = after (writingCheck s c b out) (λ _. fileOf s c b ++ drop (fileLength s b) out) out

@@ -26,6 +26,9 @@ pub const MOST_CELLS: u16 = 1024;
 
 pub const MOST_EVENTS: usize = 1024;
 
+// The last edition of the file; the first is 1.
+pub const LAST_EDITION: u16 = 2;
+
 // The most bytes of a file that the program reads.
 pub const MOST_BYTES: usize = 16384;
 
@@ -36,11 +39,12 @@ pub struct Event {
     pub object: u16,
 }
 
-// How many tasks, semaphores and cells a recording names.
+// How many tasks, semaphores and cells a recording names, and the edition of its file.
 pub struct Counts {
     pub tasks: u16,
     pub semaphores: u16,
     pub cells: u16,
+    pub edition: u16,
 }
 
 // The trailer of a file: where its first record starts, how many records it has, and its counts.
@@ -78,6 +82,7 @@ pub enum Refusal {
     List(usize),
     Event,
     Out,
+    Starts,
 }
 
 // The outcome of a check.
@@ -152,6 +157,7 @@ impl Refusal {
             Refusal::List(_) => 10,
             Refusal::Event => 11,
             Refusal::Out => 12,
+            Refusal::Starts => 13,
         }
     }
 
@@ -172,6 +178,7 @@ impl Refusal {
             Refusal::List(_) => 0,
             Refusal::Event => 0,
             Refusal::Out => 0,
+            Refusal::Starts => 0,
         }
     }
 
@@ -192,6 +199,7 @@ impl Refusal {
             Refusal::Work => 0,
             Refusal::Event => 0,
             Refusal::Out => 0,
+            Refusal::Starts => 0,
         }
     }
 }

@@ -127,7 +127,7 @@ module _ (E : Recording) (X R : Vectors) where
 -- what the chain of a cell passes over has no part: neither among the pairs of an access a, nor among the rows of a cell
 module _ (s : List ℕ) (c : Counts) (X R : Vectors) where
   abbrev E : Recording
-  E = recordingBy s c
+  E = recordingBy s c []
 
   pub pair-skip : (a m b : ℕ) → Nearest s (objectOf E a) m b → each (pairAt E X R a) b ≡ each (pairAt E X R a) m
   pair-skip a m b n = skipped (pairAt E X R a) s (objectOf E a) m b n (λ i h. pair-miss E X R a i (race-other E X a i h))

@@ -3,7 +3,7 @@
 use Prim.Native.Nat.{ℕ, _+_, _*_, _≤_}
 use mathlib.Core.Path.{_≡_}
 use mathlib.Core.Bool.{Bool, cond}
-use mathlib.Core.List.{List, _++_}
+use mathlib.Core.List.{List, [], _++_}
 use lib.Dec.{leb}
 use lib.ListN.{length, drop}
 use lib.Seq.{sets}
@@ -15,13 +15,13 @@ use Rattle.model.specs.Pairs.{Entry, entryNumbers}
 use Rattle.passes.specs.Lent.{vectorsIn, Fitting, Placed}
 use Rattle.model.specs.Reading.{mostCells}
 
--- a definition over a recording, its safe and its recorded vectors, at those that are lent
+-- a definition over a recording, its safe and its recorded vectors, at those that are lent; a list reads no levels, so they are []
 abbrev pub over : {A : Type 0} → (Recording → Vectors → Vectors → A) → List ℕ → Counts → List ℕ → List ℕ → A
-over f s c x r = f (recordingBy s c) (vectorsIn s c x) (vectorsIn s c r)
+over f s c x r = f (recordingBy s c []) (vectorsIn s c x) (vectorsIn s c r)
 
 -- n is how many entries f has by the safe vectors x, whatever recorded vectors give the marks
 abbrev pub HowMany : (Recording → Vectors → Vectors → List Entry) → List ℕ → Counts → List ℕ → ℕ → Type 0
-HowMany f s c x n = (R : Vectors) → n ≡ length (f (recordingBy s c) (vectorsIn s c x) R)
+HowMany f s c x n = (R : Vectors) → n ≡ length (f (recordingBy s c []) (vectorsIn s c x) R)
 
 -- records of few cells, the positions of their events, and the safe and the recorded vectors x and r
 pub record Lent (s : List ℕ) (c : Counts) (positions x r : List ℕ) : Type 0 where

@@ -73,7 +73,7 @@ fn race_pair(
 ) -> bool
     requires { ⌜ Placed (now records) counts (now positions) × Fitting (now records) counts (now safe) ⌝ }
     requires { ⌜ (a < b) × Numbered (now records) b ⌝ }
-    ensures { λ r. ⌜ r ≡ racePair (recordingBy (now (records .entry)) counts) (vectorsIn (now (records .entry)) counts (now (safe .entry))) a b ⌝ }
+    ensures { λ r. ⌜ r ≡ racePair (recordingBy (now (records .entry)) counts []) (vectorsIn (now (records .entry)) counts (now (safe .entry))) a b ⌝ }
 {
     let v = events::event_at(records, a);
     let w = events::event_at(records, b);
@@ -94,7 +94,7 @@ fn mark(
 ) -> u16
     requires { ⌜ Placed (now records) counts (now positions) × Fitting (now records) counts (now recorded) ⌝ }
     requires { ⌜ Numbered (now records) a × Numbered (now records) b ⌝ }
-    ensures { λ r. ⌜ r ≡ mark (recordingBy (now (records .entry)) counts) (vectorsIn (now (records .entry)) counts (now (recorded .entry))) a b ⌝ }
+    ensures { λ r. ⌜ r ≡ mark (recordingBy (now (records .entry)) counts []) (vectorsIn (now (records .entry)) counts (now (recorded .entry))) a b ⌝ }
 {
     if unordered(records, counts, positions, recorded, a, b) {
         1

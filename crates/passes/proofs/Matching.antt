@@ -2,16 +2,15 @@
 use mathlib.Core.Path.{_≡_, ap, _∙_}
 use mathlib.Core.Bool.{Bool, true, false, _&&_}
 use mathlib.Core.List.{List}
-use Prim.Native.Nat.{ℕ, zero, suc, _+_, _≤_, _<_}
+use Prim.Native.Nat.{ℕ, zero, suc, _+_, _-_, _≤_, _<_, min}
 use native.Mathlib.Decide.{decLe}
 use native.Mathlib.Omega.{arith}
 use lib.Dec.{leb, eqb}
-use lib.ListN.{length, getD, set, length-set}
+use lib.ListN.{length, getD, set, replicate, length-set, length-replicate, getD-replicate}
 use lib.Seq.{getD-set-same, getD-set-other}
-use Rattle.model.specs.declared.Counts.{Counts}
 use Rattle.model.specs.declared.Found.{Found}
 use Rattle.model.specs.Numbers.{bit, sum, tally, nth}
-use Rattle.model.specs.File.{eventsOf}
+use Rattle.model.specs.File.{eventsOf, levelsBy}
 use Rattle.model.specs.Passes.{signalsOn}
 use Rattle.model.proofs.Tests.{cases, tests, fails, first, second, eqb-true}
 use Rattle.events.specs.Chains.{among, head, Chained}
@@ -19,7 +18,7 @@ use Rattle.events.proofs.Laws.{tally-next}
 use Rattle.events.proofs.Chains.{chained-by}
 use Rattle.passes.specs.Matching.{signalAt, waitAt, AtHand, Matching}
 use Rattle.passes.proofs.Searches.{tally-start, nth-here, nth-none}
-use Rattle.model.specs.Recording.{eventIn, wait, signal}
+use Rattle.model.specs.Recording.{startOf, eventIn, wait, signal}
 
 -- a tally does not rise over numbers that fail
 tally-skip : (p : ℕ → Bool) (m b : ℕ) → m ≤ b → ((i : ℕ) → m ≤ i → i < b → p i ≡ false) → tally p b ≡ tally p m
@@ -37,11 +36,14 @@ one-kind k =
     (λ t. rw t (fails (leb signal k && leb k signal) (λ u. let a = first (leb signal k) (leb k signal) u in let b = second (leb signal k) (leb k signal) u in omega tests)))
 
 -- before the first event
-pub start : (s : List ℕ) (n : ℕ) (chain : List ℕ) → n ≡ length (eventsOf s) → Chained (among s signal signal) n 64 0 chain → Matching s 0 chain
-start s n chain q d =
+pub start : (s b : List ℕ) (n : ℕ) (chain : List ℕ) → n ≡ length (eventsOf s) → Chained (among s signal signal) n 64 0 chain
+    → Matching s b 0 (replicate 64 0) chain
+start s b n chain q d =
     let c : Chained (signalAt s) (length (eventsOf s)) 64 0 chain = rw q at (chained-by (among s signal signal) (signalAt s) n 64 0 chain (λ x i. ap (λ (b : Bool). b && eqb (eventIn (eventsOf s) i .object) x) (one-kind (eventIn (eventsOf s) i .kind))) d) in
     record {
+      places = length-replicate {A = ℕ} 64 0;
       wide = c .wide;
+      counted = λ x l. rw (getD-replicate {A = ℕ} 64 x 0 0 l) (omega (arith, tally-start (waitAt s x)));
       heads = λ x l.
           let n = c .heads x l in
           let t = tally-skip (signalAt s x) 0 (getD chain (head x) 0) (omega arith) (n .passed) in
@@ -51,18 +53,21 @@ start s n chain q d =
       links = λ a x l m t. c .links a x (omega arith) l m t;
     }
 
-module _ (s : List ℕ) (e : ℕ) (chain : List ℕ) (m : Matching s e chain) where
+module _ (s b : List ℕ) (e : ℕ) (unmatched chain : List ℕ) (m : Matching s b e unmatched chain) where
   -- an event that is no wait
-  pub next-other : ((x : ℕ) → waitAt s x e ≡ false) → Matching s (e + 1) chain
+  pub next-other : ((x : ℕ) → waitAt s x e ≡ false) → Matching s b (e + 1) unmatched chain
   next-other h =
+      let q : (x : ℕ) → tally (waitAt s x) (e + 1) ≡ tally (waitAt s x) e = λ x. omega (arith, tally-next (waitAt s x) e, ap bit (h x)) in
       record {
+        places = m .places;
         wide = m .wide;
-        heads = λ x l. let q : tally (waitAt s x) (e + 1) ≡ tally (waitAt s x) e = omega (arith, tally-next (waitAt s x) e, ap bit (h x)) in rw q (m .heads x l);
+        counted = λ x l. rw (q x) (m .counted x l);
+        heads = λ x l. rw (q x) (m .heads x l);
         links = m .links;
       }
 
-  -- a wait on y, and what is at hand there then
-  module _ (y : ℕ) (l : y < 64) (t : waitAt s y e ≡ true) (b : ℕ) (h : AtHand s y (tally (waitAt s y) e + 1) b) (g : length (eventsOf s) ≤ 1024) where
+  -- a wait on y
+  module _ (y : ℕ) (l : y < 64) (t : waitAt s y e ≡ true) where
     only : (x : ℕ) → (x ≡ y → ⊥) → waitAt s x e ≡ false
     only x d =
         let v = eventIn (eventsOf s) e in
@@ -75,26 +80,51 @@ module _ (s : List ℕ) (e : ℕ) (chain : List ℕ) (m : Matching s e chain) wh
     there : (x : ℕ) → (x ≡ y → ⊥) → tally (waitAt s x) (e + 1) ≡ tally (waitAt s x) e
     there x d = omega (arith, tally-next (waitAt s x) e, ap bit (only x d))
 
-    head-next : (x : ℕ) → x < 64 → AtHand s x (tally (waitAt s x) (e + 1)) (getD (set chain (head y) b) (head x) 0)
-    head-next x k =
+    -- what holds at y, and was kept at the others, holds at each
+    at-each : (P : ℕ → ℕ → Type 0) → P y (tally (waitAt s y) e + 1) → (x : ℕ) → ((x ≡ y → ⊥) → P x (tally (waitAt s x) e)) → P x (tally (waitAt s x) (e + 1))
+    at-each P h x k =
         cases (eqb x y)
-        (λ u. let q : x ≡ y = omega tests in rw (q, here, getD-set-same chain (head y) b 0 (omega (arith, m .wide))) h)
-        (λ u. let d : x ≡ y → ⊥ = λ q. omega tests in rw (there x d, getD-set-other chain (head y) (head x) b 0 (λ q. d (omega arith))) (m .heads x k))
+        (λ u. let q : x ≡ y = omega tests in rw (q, here) h)
+        (λ u. let d : x ≡ y → ⊥ = λ q. omega tests in rw (there x d) (k d))
 
-    pub next-wait : Matching s (e + 1) (set chain (head y) b)
-    next-wait =
+    -- one of the first, as many as the start count
+    pub next-early : getD unmatched y 0 < startOf (levelsBy b) y → Matching s b (e + 1) (set unmatched y (getD unmatched y 0 + 1)) chain
+    next-early h =
+        let n = getD unmatched y 0 + 1 in
+        let z : tally (waitAt s y) e + 1 - startOf (levelsBy b) y ≡ tally (waitAt s y) e - startOf (levelsBy b) y = omega (arith, m .counted y l) in
         record {
-          wide = length-set chain (head y) b ∙ m .wide;
-          heads = head-next;
-          links = λ a x k n u. rw (getD-set-other chain (head y) a b 0 (λ q. omega arith)) (m .links a x k n u);
+          places = length-set unmatched y n ∙ m .places;
+          wide = m .wide;
+          counted = λ x k.
+              at-each (λ x w. getD (set unmatched y n) x 0 ≡ min (startOf (levelsBy b) x) w)
+              (getD-set-same unmatched y n 0 (omega (arith, m .places)) ∙ omega (arith, m .counted y l)) x
+              (λ d. getD-set-other unmatched y x n 0 (λ q. d (omega arith)) ∙ m .counted x k);
+          heads = λ x k. at-each (λ x w. AtHand s x (w - startOf (levelsBy b) x) (getD chain (head x) 0)) (rw z (m .heads y l)) x (λ d. m .heads x k);
+          links = m .links;
+        }
+
+    -- a later one, and what is at hand there then
+    pub next-later : startOf (levelsBy b) y ≤ getD unmatched y 0 → (a : ℕ) → AtHand s y (tally (waitAt s y) e - startOf (levelsBy b) y + 1) a → length (eventsOf s) ≤ 1024
+        → Matching s b (e + 1) unmatched (set chain (head y) a)
+    next-later h a n g =
+        let z : tally (waitAt s y) e + 1 - startOf (levelsBy b) y ≡ tally (waitAt s y) e - startOf (levelsBy b) y + 1 = omega (arith, m .counted y l) in
+        record {
+          places = m .places;
+          wide = length-set chain (head y) a ∙ m .wide;
+          counted = λ x k. at-each (λ x w. getD unmatched x 0 ≡ min (startOf (levelsBy b) x) w) (omega (arith, m .counted y l)) x (λ d. m .counted x k);
+          heads = λ x k.
+              at-each (λ x w. AtHand s x (w - startOf (levelsBy b) x) (getD (set chain (head y) a) (head x) 0))
+              (rw (z, getD-set-same chain (head y) a 0 (omega (arith, m .wide))) n) x
+              (λ d. rw (getD-set-other chain (head y) (head x) a 0 (λ q. d (omega arith))) (m .heads x k));
+          links = λ i x k j u. rw (getD-set-other chain (head y) i a 0 (λ q. omega arith)) (m .links i x k j u);
         }
 
   -- the signal at hand is taken, and the next one is at hand
-  pub taken-next : (y w b : ℕ) → y < 64 → b < length (eventsOf s) → AtHand s y w b → AtHand s y (w + 1) (getD chain b 0)
-  taken-next y w b l k h =
-      let n = m .links b y k l (h .hit k) in
-      let t = tally-skip (signalAt s y) (b + 1) (getD chain b 0) (n .low) (n .passed) in
-      let u = tally-next (signalAt s y) b in
+  pub taken-next : (y w a : ℕ) → y < 64 → a < length (eventsOf s) → AtHand s y w a → AtHand s y (w + 1) (getD chain a 0)
+  taken-next y w a l k h =
+      let n = m .links a y k l (h .hit k) in
+      let t = tally-skip (signalAt s y) (a + 1) (getD chain a 0) (n .low) (n .passed) in
+      let u = tally-next (signalAt s y) a in
       let z = ap bit (h .hit k) in
       let r = h .rank k in
       record { high = n .high; hit = n .hit; rank = λ _. omega arith; most = omega arith }
@@ -104,7 +134,7 @@ pub none-next : (s : List ℕ) (y w b : ℕ) → length (eventsOf s) ≤ b → A
 none-next s y w b l h = record { high = h .high; hit = h .hit; rank = λ k. absurd (omega arith); most = omega (arith, h .most) }
 
 -- what is at hand is matched
-module _ (s : List ℕ) (c : Counts) (y w b : ℕ) (h : AtHand s y w b) where
+module _ (s : List ℕ) (y w b : ℕ) (h : AtHand s y w b) where
   pub hand-at : b < length (eventsOf s) → Found.At b ≡ nth (signalsOn (eventsOf s) y) w
   unfolding signalsOn
   hand-at l = nth-here (signalAt s y) (length (eventsOf s)) w b l (h .hit l) (h .rank l)

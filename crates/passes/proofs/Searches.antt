@@ -1,16 +1,16 @@
 -- What the searches over the records find: below which number it lies, and the signal that matches a wait.
 -- Assumes nothing.
-use Prim.Native.Nat.{ℕ, _≤_, _<_}
+use Prim.Native.Nat.{ℕ, _-_, _≤_, _<_}
 use mathlib.Core.Path.{_≡_, refl, sym, ap, ap₂, subst, _∙_}
 use mathlib.Core.Bool.{Bool, true}
 use native.Mathlib.Omega.{arith}
 use Rattle.model.specs.declared.Event.{Event}
 use Rattle.model.specs.declared.Found.{Found}
 use Rattle.model.specs.Numbers.{sum, tally, picked, lastOf, nth}
-use Rattle.model.specs.Recording.{Recording, kindOf, objectOf, wait}
+use Rattle.model.specs.Recording.{startOf, Recording, kindOf, objectOf, wait}
 use Rattle.model.specs.Passes.{signalsOn}
 use Rattle.model.specs.Recorded.{waitsBefore, matched}
-use Rattle.model.proofs.Tests.{eq-eqb, ne-eqb}
+use Rattle.model.proofs.Tests.{eq-eqb, ne-eqb, lt-ltb, le-ltb}
 use Rattle.model.proofs.Sum.{rank-rises, rank-same}
 use Rattle.model.proofs.Picked.{nth-of, nth-found}
 use Rattle.events.specs.Kept.{Below}
@@ -43,10 +43,18 @@ unfolding sum
 tally-start p = refl
 
 module _ (E : Recording) (e : ℕ) where
-  pub matched-wait : kindOf E e ≡ wait → nth (signalsOn (E .events) (objectOf E e)) (waitsBefore (E .events) e) ≡ matched (E .events) e
+  -- a wait that the start count serves, a later one, and any other event
+  pub matched-early : kindOf E e ≡ wait → waitsBefore (E .events) e < startOf (E .levels) (objectOf E e)
+      → Found.Nothing ≡ matched (E .levels) (E .events) e
   unfolding matched
-  matched-wait q = rw (eq-eqb (kindOf E e) wait q)
+  matched-early q h = rw (eq-eqb (kindOf E e) wait q, lt-ltb _ _ h)
 
-  pub matched-other : (kindOf E e ≡ wait → ⊥) → Found.Nothing ≡ matched (E .events) e
+  pub matched-later : kindOf E e ≡ wait → startOf (E .levels) (objectOf E e) ≤ waitsBefore (E .events) e
+      → nth (signalsOn (E .events) (objectOf E e)) (waitsBefore (E .events) e - startOf (E .levels) (objectOf E e))
+      ≡ matched (E .levels) (E .events) e
+  unfolding matched
+  matched-later q h = rw (eq-eqb (kindOf E e) wait q, le-ltb _ _ h)
+
+  pub matched-other : (kindOf E e ≡ wait → ⊥) → Found.Nothing ≡ matched (E .levels) (E .events) e
   unfolding matched
   matched-other d = rw (ne-eqb (kindOf E e) wait d)

@@ -18,7 +18,7 @@ use Rattle.passes.specs.Steps.{firstRow}
 
 -- the rows of event e and of all that follow
 pub rowsFrom : Recording → ℕ → List ℕ
-rowsFrom E e = flat (listFrom (firstRow E) e (size E - e))
+rowsFrom E e = flat (listFrom (firstRow (E .counts) (E .events)) e (size E - e))
 
 pub rows-start : (E : Recording) → rowsFrom E 0 ≡ flat (start E)
 unfolding rowsFrom start ownRow
@@ -26,7 +26,7 @@ rows-start E =
     let k : size E - 0 ≡ size E = omega arith in
     rw k
 
-rows-next : (E : Recording) (e : ℕ) → e < size E → rowsFrom E e ≡ firstRow E e ++ rowsFrom E (e + 1)
+rows-next : (E : Recording) (e : ℕ) → e < size E → rowsFrom E e ≡ firstRow (E .counts) (E .events) e ++ rowsFrom E (e + 1)
 unfolding rowsFrom listFrom flat
 rows-next E e h =
     let k : size E - e ≡ suc (size E - suc e) = omega arith in
@@ -42,15 +42,15 @@ pub start-length : (E : Recording) → length (flat (start E)) ≡ size E * task
 start-length E = flat-length (size E) (tasks E) (start E) (start-shaped E)
 
 pub row-fits : (E : Recording) (e : ℕ) → e < size E → tasks E ≤ length (rowsFrom E e)
-row-fits E e h = rw (rows-next E e h) (omega (arith, length-append (firstRow E e) (rowsFrom E (e + 1)), own-length (tasks E) (taskOf E e) (position (E .events) e)))
+row-fits E e h = rw (rows-next E e h) (omega (arith, length-append (firstRow (E .counts) (E .events) e) (rowsFrom E (e + 1)), own-length (tasks E) (taskOf E e) (position (E .events) e)))
 
 -- one row is stored, and the later ones over it are the whole from e on
-pub row-stored : (E : Recording) (e : ℕ) → e < size E → (v v′ : List ℕ) (at : ℕ) → v′ ≡ sets v at (firstRow E e)
+pub row-stored : (E : Recording) (e : ℕ) → e < size E → (v v′ : List ℕ) (at : ℕ) → v′ ≡ sets v at (firstRow (E .counts) (E .events) e)
     → (sets v′ (at + tasks E) (rowsFrom E (e + 1)) ≡ sets v at (rowsFrom E e)) × (at + tasks E + length (rowsFrom E (e + 1)) ≡ at + length (rowsFrom E e))
 row-stored E e h v v′ at q =
-    let k : length (firstRow E e) ≡ tasks E = own-length (tasks E) (taskOf E e) (position (E .events) e) in (
-      rw (rows-next E e h, q) (rw k at (sym (sets-append (firstRow E e) (rowsFrom E (e + 1)) v at))),
-      rw (rows-next E e h) (omega (arith, length-append (firstRow E e) (rowsFrom E (e + 1)))),
+    let k : length (firstRow (E .counts) (E .events) e) ≡ tasks E = own-length (tasks E) (taskOf E e) (position (E .events) e) in (
+      rw (rows-next E e h, q) (rw k at (sym (sets-append (firstRow (E .counts) (E .events) e) (rowsFrom E (e + 1)) v at))),
+      rw (rows-next E e h) (omega (arith, length-append (firstRow (E .counts) (E .events) e) (rowsFrom E (e + 1)))),
     )
 
 -- all are stored

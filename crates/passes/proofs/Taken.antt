@@ -147,10 +147,10 @@ join-taken E l k j e f g p q h d t u r z =
 
 -- the recorded vector: step 1, then the matched signal
 pub record-event : (E : Recording) (X Y Z : Vectors) (e : ℕ) → Shaped (size E) (tasks E) X → e < size E
-    → Y ≡ stepOne E X e → Z ≡ taken (E .counts) Y (found (matched (E .events) e)) e → Z ≡ recordedEvent E X e
+    → Y ≡ stepOne E X e → Z ≡ taken (E .counts) Y (found (matched (E .levels) (E .events) e)) e → Z ≡ recordedEvent E X e
 unfolding stepOne recordedEvent
 record-event E X Y Z e s h q r =
     r
-    ∙ ap (λ (W : Vectors). taken (E .counts) W (found (matched (E .events) e)) e) (q ∙ gathered-taken E X (sources (E .events) e) e)
-    ∙ taken-then (E .counts) X e s h (sources (E .events) e) (found (matched (E .events) e))
-    ∙ sym (gathered-taken E X (causes (E .events) e) e)
+    ∙ ap (λ (W : Vectors). taken (E .counts) W (found (matched (E .levels) (E .events) e)) e) (q ∙ gathered-taken E X (sources (E .events) e) e)
+    ∙ taken-then (E .counts) X e s h (sources (E .events) e) (found (matched (E .levels) (E .events) e))
+    ∙ sym (gathered-taken E X (causes (E .levels) (E .events) e) e)

@@ -1,6 +1,6 @@
 -- Step 2: the candidates and k as one look at the records gives them, and a wait raised by them.
 -- Assumes nothing.
-use Prim.Native.Nat.{ℕ, zero, suc, _+_, _*_, _≤_, _<_, zero-le, max}
+use Prim.Native.Nat.{ℕ, zero, suc, _+_, _-_, _*_, _≤_, _<_, zero-le, max}
 use mathlib.Core.Path.{_≡_, refl, sym, ap, ap₂, _∙_}
 use mathlib.Core.Bool.{Bool, true, false, cond, not, _&&_}
 use mathlib.Core.List.{List, [], _∷_, _++_, map, append-nil, append-assoc}
@@ -8,7 +8,9 @@ use native.Mathlib.Numerals.{add-one}
 use lib.ListN.{length, getD, set, drop}
 use lib.Seq.{set-at, set-set, drop-cons}
 use Rattle.model.specs.Numbers.{tally, filter, each, picked, kthLeast}
-use Rattle.model.specs.Recording.{Recording, size, tasks, event, kindOf, objectOf, isSignal, isWait, wait}
+use Rattle.model.specs.declared.Counts.{Counts}
+use Rattle.model.specs.declared.Event.{Event}
+use Rattle.model.specs.Recording.{startOf, Recording, size, tasks, event, kindOf, objectOf, isSignal, isWait, wait}
 use Rattle.model.specs.Vectors.{Vectors, number, ordered}
 use Rattle.model.specs.Passes.{signalsOn, waitsOn, kOf, needed, candidates, served, stepOne, raised}
 use Rattle.model.proofs.Tests.{cases, eq-eqb, ne-eqb}
@@ -56,29 +58,30 @@ filter-picked p q (suc n) =
     last true = refl
     last false = refl
 
+module _ (l : List Event) (X : Vectors) (e s : ℕ) where
+  pub candidates-all : (a : ℕ) → a ≡ length l → picked (candidate l X e s) a ≡ candidatesOn l X e s
+  unfolding candidatesOn
+  candidates-all a q = ap (picked (candidate l X e s)) q
+
+  pub candidates-few : length (candidatesOn l X e s) ≤ length l
+  unfolding candidatesOn
+  candidates-few = picked-few (candidate l X e s) (length l)
+
+  pub candidates-below : (i : ℕ) → i < length (candidatesOn l X e s) → getD (candidatesOn l X e s) i 0 < length l
+  unfolding candidatesOn
+  candidates-below i h = picked-below (candidate l X e s) (length l) i h
+
 module _ (E : Recording) (X : Vectors) (e : ℕ) where
-  pub candidates-on : candidatesOn E X e (objectOf E e) ≡ candidates E X e
+  pub candidates-on : candidatesOn (E .events) X e (objectOf E e) ≡ candidates E X e
   unfolding candidatesOn candidates signalsOn
   candidates-on = sym (filter-picked (λ a. isSignal (objectOf E e) (event E a)) (λ s. not (ordered (E .events) X e s)) (size E))
 
-  pub candidates-all : (s a : ℕ) → a ≡ size E → picked (candidate E X e s) a ≡ candidatesOn E X e s
-  unfolding candidatesOn
-  candidates-all s a q = ap (picked (candidate E X e s)) q
-
-  pub candidates-few : (s : ℕ) → length (candidatesOn E X e s) ≤ size E
-  unfolding candidatesOn
-  candidates-few s = picked-few (candidate E X e s) (size E)
-
-  pub candidates-below : (s i : ℕ) → i < length (candidatesOn E X e s) → getD (candidatesOn E X e s) i 0 < size E
-  unfolding candidatesOn
-  candidates-below s i h = picked-below (candidate E X e s) (size E) i h
-
-  pub k-tally : (s : ℕ) → kOf E X e s ≡ suc (tally (waitBefore E X e s) (size E))
+  pub k-tally : (s : ℕ) → kOf E X e s ≡ suc (tally (waitBefore (E .events) X e s) (size E)) - startOf (E .levels) s
   unfolding waitsOn
-  k-tally s = ap suc (count-picked (λ a. isWait s (event E a)) (λ w. ordered (E .events) X w e) (size E))
+  k-tally s = ap (λ (n : ℕ). suc n - startOf (E .levels) s) (count-picked (λ a. isWait s (event E a)) (λ w. ordered (E .events) X w e) (size E))
 
   -- a wait, and any other event
-  pub wait-raised : kindOf E e ≡ wait → waited E X e (objectOf E e) ≡ stepTwo E X e
+  pub wait-raised : kindOf E e ≡ wait → waited (E .counts) (E .events) X e (objectOf E e) (kOf E X e (objectOf E e)) ≡ stepTwo E X e
   unfolding waited stepTwo raisedTo served needed
   wait-raised q = rw (candidates-on, eq-eqb (kindOf E e) wait q)
 
@@ -91,15 +94,16 @@ module _ (E : Recording) (X : Vectors) (e : ℕ) where
       rw (q, z) zero-le)
 
 -- the candidates' numbers in the flat list
-pub chunks-waited : (E : Recording) (l : List ℕ) (e s k : ℕ) (cs : List ℕ) → length l ≡ size E * tasks E → e < size E
-    → k ≡ kOf E (chunks (size E) (tasks E) l) e s → cs ≡ candidatesOn E (chunks (size E) (tasks E) l) e s
-    → chunks (size E) (tasks E) (raisedAt l (e * tasks E) (λ t. kthLeast k (column (tasks E) l t cs)) (tasks E)) ≡ waited E (chunks (size E) (tasks E) l) e s
+pub chunks-waited : (c : Counts) (l : List Event) (v : List ℕ) (e s k : ℕ) (cs : List ℕ) → length v ≡ length l * c .tasks → e < length l
+    → cs ≡ candidatesOn l (chunks (length l) (c .tasks) v) e s
+    → chunks (length l) (c .tasks) (raisedAt v (e * c .tasks) (λ t. kthLeast k (column (c .tasks) v t cs)) (c .tasks))
+    ≡ waited c l (chunks (length l) (c .tasks) v) e s k
 unfolding waited
-chunks-waited E l e s k cs h p q r =
-    let X = chunks (size E) (tasks E) l in
-    chunks-raised (size E) (tasks E) l e (λ t. kthLeast k (column (tasks E) l t cs)) h p
-    ∙ raisedTo-alike e _ _ (chunks-shaped (size E) (tasks E) l h) p λ t j.
-    ap (max (number X e t)) (ap₂ kthLeast q (column-chunks (size E) (tasks E) l t cs h j ∙ ap (map (λ a. number X a t)) r))
+chunks-waited c l v e s k cs h p r =
+    let X = chunks (length l) (c .tasks) v in
+    chunks-raised (length l) (c .tasks) v e (λ t. kthLeast k (column (c .tasks) v t cs)) h p
+    ∙ raisedTo-alike e _ _ (chunks-shaped (length l) (c .tasks) v h) p λ t j.
+    ap (max (number X e t)) (ap (kthLeast k) (column-chunks (length l) (c .tasks) v t cs h j ∙ ap (map (λ a. number X a t)) r))
 
 -- both steps
 pub event-raised : (E : Recording) (X Y Z : Vectors) (e : ℕ) → Y ≡ stepOne E X e → Z ≡ stepTwo E Y e → Z ≡ raisedEvent E X e

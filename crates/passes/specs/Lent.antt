@@ -6,7 +6,7 @@ use mathlib.Core.List.{List}
 use lib.ListN.{length, getD}
 use Rattle.model.specs.declared.Counts.{Counts}
 use Rattle.model.specs.declared.Found.{Found}
-use Rattle.model.specs.Recording.{Recording, size, taskOf, kindOf, objectOf, wait}
+use Rattle.model.specs.Recording.{Recording, eventIn, wait}
 use Rattle.model.specs.File.{eventsOf, recordingBy}
 use Rattle.model.specs.Vectors.{Vectors}
 use Rattle.vectors.specs.Rows.{chunks, raisedAt}
@@ -15,19 +15,19 @@ use Rattle.model.specs.Reading.{mostSemaphores, mostEvents}
 
 -- lent numbers as one vector for each event
 abbrev pub vectorsIn : List ℕ → Counts → List ℕ → Vectors
-vectorsIn s c v = chunks (size (recordingBy s c)) (c .tasks) v
+vectorsIn s c v = chunks (length (eventsOf s)) (c .tasks) v
 
--- a definition over a recording and its vectors, at those that are lent
-abbrev pub over : {A : Type 0} → (Recording → Vectors → A) → List ℕ → Counts → List ℕ → A
-over f s c v = f (recordingBy s c) (vectorsIn s c v)
+-- a definition over a recording and its vectors, at those that are lent; b are the level bytes, [] where f reads no levels
+abbrev pub over : {A : Type 0} → (Recording → Vectors → A) → List ℕ → Counts → List ℕ → List ℕ → A
+over f s c b v = f (recordingBy s c b) (vectorsIn s c v)
 
 -- the lent numbers v have become v′: f has been applied to their vectors
-abbrev pub Becomes : (Recording → Vectors → Vectors) → List ℕ → Counts → List ℕ → List ℕ → Type 0
-Becomes f s c v v′ = vectorsIn s c v′ ≡ over f s c v
+abbrev pub Becomes : (Recording → Vectors → Vectors) → List ℕ → Counts → List ℕ → List ℕ → List ℕ → Type 0
+Becomes f s c b v v′ = vectorsIn s c v′ ≡ over f s c b v
 
 -- they are as many as the vectors have
 abbrev pub Fitting : List ℕ → Counts → List ℕ → Type 0
-Fitting s c v = length v ≡ size (recordingBy s c) * c .tasks
+Fitting s c v = length v ≡ length (eventsOf s) * c .tasks
 
 -- a is the number of an event of these record bytes
 abbrev pub Numbered : List ℕ → ℕ → Type 0
@@ -36,10 +36,10 @@ Numbered s a = a < length (eventsOf s)
 -- the record bytes s are whole records, at most 1,024, each of a task below the number of tasks, and each wait on a
 -- semaphore below 64
 pub record Records (s : List ℕ) (c : Counts) : Type 0 where
-  pub whole : length s ≡ 4 * size (recordingBy s c)
-  pub few : size (recordingBy s c) ≤ mostEvents
-  pub named : (e : ℕ) → e < size (recordingBy s c) → taskOf (recordingBy s c) e < c .tasks
-  pub waits : (e : ℕ) → e < size (recordingBy s c) → kindOf (recordingBy s c) e ≡ wait → objectOf (recordingBy s c) e < mostSemaphores
+  pub whole : length s ≡ 4 * length (eventsOf s)
+  pub few : length (eventsOf s) ≤ mostEvents
+  pub named : (e : ℕ) → e < length (eventsOf s) → eventIn (eventsOf s) e .task < c .tasks
+  pub waits : (e : ℕ) → e < length (eventsOf s) → eventIn (eventsOf s) e .kind ≡ wait → eventIn (eventsOf s) e .object < mostSemaphores
 
 -- and the positions of their events
 pub record Placed (s : List ℕ) (c : Counts) (positions : List ℕ) : Type 0 where

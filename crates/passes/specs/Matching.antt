@@ -1,13 +1,14 @@
--- The matches of the recorded run, in one look: each wait takes the signal at hand on its semaphore, and the next one is at hand.
+-- The matches of the recorded run, in one look: the first waits on a semaphore, as many as its start count, take no signal; each
+-- later one takes the signal at hand, and the next one is at hand.
 -- Assumes nothing.
-use Prim.Native.Nat.{ℕ, _+_, _≤_, _<_}
+use Prim.Native.Nat.{ℕ, _+_, _-_, _≤_, _<_, min}
 use mathlib.Core.Path.{_≡_}
 use mathlib.Core.Bool.{Bool, true}
 use mathlib.Core.List.{List}
 use lib.ListN.{length, getD}
 use Rattle.model.specs.Numbers.{tally}
-use Rattle.model.specs.Recording.{isSignal, isWait, eventIn}
-use Rattle.model.specs.File.{eventsOf}
+use Rattle.model.specs.Recording.{startOf, isSignal, isWait, eventIn}
+use Rattle.model.specs.File.{eventsOf, levelsBy}
 use Rattle.events.specs.Chains.{Nearest, head}
 
 -- event i of the record bytes s is a signal, or a wait, on semaphore x
@@ -24,8 +25,11 @@ pub record AtHand (s : List ℕ) (x w b : ℕ) : Type 0 where
   pub rank : b < length (eventsOf s) → tally (signalAt s x) b ≡ w
   pub most : tally (signalAt s x) b ≤ w
 
--- the running state after the events below e: at a semaphore's place the signal at hand, and at a signal's the next one
-pub record Matching (s : List ℕ) (e : ℕ) (chain : List ℕ) : Type 0 where
+-- the running state after the events below e, with the level bytes b: for each semaphore how many waits have had no signal, and at
+-- its place in the chains the signal at hand; at a signal's place the next one
+pub record Matching (s b : List ℕ) (e : ℕ) (unmatched chain : List ℕ) : Type 0 where
+  pub places : length unmatched ≡ 64
   pub wide : length chain ≡ 2048
-  pub heads : (x : ℕ) → x < 64 → AtHand s x (tally (waitAt s x) e) (getD chain (head x) 0)
+  pub counted : (x : ℕ) → x < 64 → getD unmatched x 0 ≡ min (startOf (levelsBy b) x) (tally (waitAt s x) e)
+  pub heads : (x : ℕ) → x < 64 → AtHand s x (tally (waitAt s x) e - startOf (levelsBy b) x) (getD chain (head x) 0)
   pub links : (a x : ℕ) → a < length (eventsOf s) → x < 64 → signalAt s x a ≡ true → Nearest (signalAt s x) (length (eventsOf s)) (a + 1) (getD chain a 0)

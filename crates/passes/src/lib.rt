@@ -1,12 +1,12 @@
 // Passes and safe vectors, and the recorded run, over record bytes and lent work numbers.
 ghost use Prim.Native.Nat.{_+_, _*_, _/_, _≤_, _<_};
 ghost use mathlib.Core.Path.{_≡_};
-ghost use mathlib.Core.List.{_++_};
+ghost use mathlib.Core.List.{[], _++_};
 ghost use lib.Dec.{eqb};
 ghost use lib.ListN.{length, drop};
 ghost use lib.Seq.{sets};
-ghost use Rattle.model.specs.Recording.{size, kindOf, join};
-ghost use Rattle.model.specs.File.{eventsOf, recordingBy};
+ghost use Rattle.model.specs.Recording.{kindOf, join};
+ghost use Rattle.model.specs.File.{eventsOf, levelsBy, recordingBy};
 ghost use Rattle.model.specs.Vectors.{flat, start, ordered};
 ghost use Rattle.model.specs.Passes.{joinSources, stepOne, kOf, pass, run};
 ghost use Rattle.model.specs.Recorded.{matched, recorded};
@@ -68,7 +68,7 @@ fn raise_found(v: &mut [u16], e: usize, tasks: usize, from: Found) -> bool
 // For a join of t, raises vector e to those of the fork of t and of t's last event. Answers whether any number rose.
 fn raise_by_join(records: &[u8], counts: Counts, e: usize, v: &mut [u16]) -> bool
     requires { ⌜ Records (now records) counts × Fitting (now records) counts (now v) × Numbered (now records) e ⌝ }
-    ensures { λ _. ⌜ Becomes (λ E X. taken counts X (joinSources (E .events) e (eqb (kindOf E e) join)) e) (now (records .entry)) counts (now (v .entry)) (now (v .exit)) ⌝ }
+    ensures { λ _. ⌜ Becomes (λ E X. taken counts X (joinSources (E .events) e (eqb (kindOf E e) join)) e) (now (records .entry)) counts [] (now (v .entry)) (now (v .exit)) ⌝ }
     ensures { λ r. ⌜ Rose (now (v .entry)) (now (v .exit)) r ⌝ }
 {
     let j = events::event_at(records, e);
@@ -93,7 +93,7 @@ fn step_one(
     v: &mut [u16],
 ) -> bool
     requires { ⌜ Records (now records) counts × Fitting (now records) counts (now v) × Numbered (now records) e × Before (eventsOf (now records)) (now before) ⌝ }
-    ensures { λ _. ⌜ Becomes (λ E X. stepOne E X e) (now (records .entry)) counts (now (v .entry)) (now (v .exit)) ⌝ }
+    ensures { λ _. ⌜ Becomes (λ E X. stepOne E X e) (now (records .entry)) counts [] (now (v .entry)) (now (v .exit)) ⌝ }
     ensures { λ r. ⌜ Rose (now (v .entry)) (now (v .exit)) r ⌝ }
 {
     let from = events::found_below(records.len() / 4, before[e]);
@@ -115,7 +115,7 @@ fn is_wait_before(
 ) -> bool
     requires { ⌜ Placed (now records) counts (now positions) × Fitting (now records) counts (now v) ⌝ }
     requires { ⌜ Numbered (now records) w × Numbered (now records) e ⌝ }
-    ensures { λ r. ⌜ r ≡ over waitBefore (now (records .entry)) counts (now (v .entry)) e s w ⌝ }
+    ensures { λ r. ⌜ r ≡ waitBefore (eventsOf (now (records .entry))) (vectorsIn (now (records .entry)) counts (now (v .entry))) e s w ⌝ }
 {
     if events::is_on(records, w, WAIT, s) {
         return ordered(records, counts, positions, v, w, e);
@@ -135,7 +135,7 @@ fn is_candidate(
 ) -> bool
     requires { ⌜ Placed (now records) counts (now positions) × Fitting (now records) counts (now v) ⌝ }
     requires { ⌜ Numbered (now records) a × Numbered (now records) e ⌝ }
-    ensures { λ r. ⌜ r ≡ over candidate (now (records .entry)) counts (now (v .entry)) e s a ⌝ }
+    ensures { λ r. ⌜ r ≡ candidate (eventsOf (now (records .entry))) (vectorsIn (now (records .entry)) counts (now (v .entry))) e s a ⌝ }
 {
     if events::is_on(records, a, SIGNAL, s) {
         return !ordered(records, counts, positions, v, e, a);
@@ -143,10 +143,19 @@ fn is_candidate(
     false
 }
 
-// k of a wait e on semaphore s: 1 plus the waits on s ordered before e.
-fn needed(records: &[u8], counts: Counts, positions: &[u16], v: &[u16], e: usize, s: u16) -> u16
+// k of a wait e on semaphore s: 1 plus the waits on s ordered before e, lowered by the start count of s; 0 where that is 0
+// or less.
+fn needed(
+    records: &[u8],
+    counts: Counts,
+    levels: &[u8],
+    positions: &[u16],
+    v: &[u16],
+    e: usize,
+    s: u16,
+) -> u16
     requires { ⌜ Placed (now records) counts (now positions) × Fitting (now records) counts (now v) × Numbered (now records) e ⌝ }
-    ensures { λ r. ⌜ r ≡ over kOf (now (records .entry)) counts (now (v .entry)) e s ⌝ }
+    ensures { λ r. ⌜ r ≡ over kOf (now (records .entry)) counts (now (levels .entry)) (now (v .entry)) e s ⌝ }
 {
     let n = records.len() / 4;
     let mut k: u16 = 1;
@@ -157,7 +166,11 @@ fn needed(records: &[u8], counts: Counts, positions: &[u16], v: &[u16], e: usize
         }
         w += 1;
     }
-    k
+    let start = events::start_of(levels, s);
+    if k <= start {
+        return 0;
+    }
+    k - start
 }
 
 // Writes the candidates of a wait e on semaphore s. Answers how many they are.
@@ -172,8 +185,8 @@ fn candidates(
 ) -> usize
     requires { ⌜ Placed (now records) counts (now positions) × Fitting (now records) counts (now v) × Numbered (now records) e ⌝ }
     requires { ⌜ mostEvents ≤ length (now out) ⌝ }
-    ensures { λ r. ⌜ r ≡ length (over candidatesOn (now (records .entry)) counts (now (v .entry)) e s) ⌝ }
-    ensures { λ r. ⌜ now (out .exit) ≡ over candidatesOn (now (records .entry)) counts (now (v .entry)) e s
+    ensures { λ r. ⌜ r ≡ length (candidatesOn (eventsOf (now (records .entry))) (vectorsIn (now (records .entry)) counts (now (v .entry))) e s) ⌝ }
+    ensures { λ r. ⌜ now (out .exit) ≡ candidatesOn (eventsOf (now (records .entry))) (vectorsIn (now (records .entry)) counts (now (v .entry))) e s
         ++ drop r (now (out .entry)) ⌝ }
 {
     let n = records.len() / 4;
@@ -196,47 +209,56 @@ fn raise_wait(
     positions: &[u16],
     e: usize,
     s: u16,
+    k: u16,
     v: &mut [u16],
 ) -> bool
     requires { ⌜ Placed (now records) counts (now positions) × Fitting (now records) counts (now v) × Numbered (now records) e ⌝ }
-    ensures { λ _. ⌜ Becomes (λ E X. waited E X e s) (now (records .entry)) counts (now (v .entry)) (now (v .exit)) ⌝ }
+    ensures { λ _. ⌜ Becomes (λ E X. waited counts (E .events) X e s k) (now (records .entry)) counts [] (now (v .entry)) (now (v .exit)) ⌝ }
     ensures { λ r. ⌜ Rose (now (v .entry)) (now (v .exit)) r ⌝ }
 {
     let mut found = [0u16; MOST_EVENTS];
     let c = candidates(records, counts, positions, v, e, s, &mut found);
-    let k = needed(records, counts, positions, v, e, s);
     let tasks = counts.tasks as usize;
     vectors::raise_to_kth(v, e, tasks, &found[..c], k)
 }
 
 // Step 2 for event e. Answers whether any number rose.
-fn step_two(records: &[u8], counts: Counts, positions: &[u16], e: usize, v: &mut [u16]) -> bool
+fn step_two(
+    records: &[u8],
+    counts: Counts,
+    levels: &[u8],
+    positions: &[u16],
+    e: usize,
+    v: &mut [u16],
+) -> bool
     requires { ⌜ Placed (now records) counts (now positions) × Fitting (now records) counts (now v) × Numbered (now records) e ⌝ }
-    ensures { λ _. ⌜ Becomes (λ E X. stepTwo E X e) (now (records .entry)) counts (now (v .entry)) (now (v .exit)) ⌝ }
+    ensures { λ _. ⌜ Becomes (λ E X. stepTwo E X e) (now (records .entry)) counts (now (levels .entry)) (now (v .entry)) (now (v .exit)) ⌝ }
     ensures { λ r. ⌜ Rose (now (v .entry)) (now (v .exit)) r ⌝ }
 {
     let w = events::event_at(records, e);
     if w.kind != WAIT {
         return false;
     }
-    raise_wait(records, counts, positions, e, w.object, v)
+    let k = needed(records, counts, levels, positions, v, e, w.object);
+    raise_wait(records, counts, positions, e, w.object, k, v)
 }
 
 // Raises event e by both steps. Answers whether any number rose.
 fn raise_event(
     records: &[u8],
     counts: Counts,
+    levels: &[u8],
     positions: &[u16],
     before: &[u16; MOST_EVENTS],
     e: usize,
     v: &mut [u16],
 ) -> bool
     requires { ⌜ Placed (now records) counts (now positions) × Fitting (now records) counts (now v) × Numbered (now records) e × Before (eventsOf (now records)) (now before) ⌝ }
-    ensures { λ _. ⌜ Becomes (λ E X. raisedEvent E X e) (now (records .entry)) counts (now (v .entry)) (now (v .exit)) ⌝ }
+    ensures { λ _. ⌜ Becomes (λ E X. raisedEvent E X e) (now (records .entry)) counts (now (levels .entry)) (now (v .entry)) (now (v .exit)) ⌝ }
     ensures { λ r. ⌜ Rose (now (v .entry)) (now (v .exit)) r ⌝ }
 {
     let x = step_one(records, counts, before, e, v);
-    let y = step_two(records, counts, positions, e, v);
+    let y = step_two(records, counts, levels, positions, e, v);
     x | y
 }
 
@@ -244,19 +266,20 @@ fn raise_event(
 fn pass(
     records: &[u8],
     counts: Counts,
+    levels: &[u8],
     positions: &[u16],
     before: &[u16; MOST_EVENTS],
     v: &mut [u16],
 ) -> bool
     requires { ⌜ Placed (now records) counts (now positions) × Fitting (now records) counts (now v) × Before (eventsOf (now records)) (now before) ⌝ }
-    ensures { λ _. ⌜ Becomes pass (now (records .entry)) counts (now (v .entry)) (now (v .exit)) ⌝ }
+    ensures { λ _. ⌜ Becomes pass (now (records .entry)) counts (now (levels .entry)) (now (v .entry)) (now (v .exit)) ⌝ }
     ensures { λ r. ⌜ Rose (now (v .entry)) (now (v .exit)) r ⌝ }
 {
     let n = records.len() / 4;
     let mut changed = false;
     let mut e = 0;
     while e < n {
-        let rose = raise_event(records, counts, positions, before, e, v);
+        let rose = raise_event(records, counts, levels, positions, before, e, v);
         changed = changed | rose;
         e += 1;
     }
@@ -273,7 +296,7 @@ fn start_event(
     v: &mut [u16],
 )
     requires { ⌜ Placed (now records) counts (now positions) × Numbered (now records) e × (from + counts .tasks ≤ length (now v)) ⌝ }
-    ensures { λ _. ⌜ now (v .exit) ≡ sets (now (v .entry)) from (firstRow (recordingBy (now (records .entry)) counts) e) ⌝ }
+    ensures { λ _. ⌜ now (v .exit) ≡ sets (now (v .entry)) from (firstRow counts (eventsOf (now (records .entry))) e) ⌝ }
 {
     let own = events::event_at(records, e);
     let tasks = counts.tasks as usize;
@@ -283,7 +306,7 @@ fn start_event(
 // Writes the starting vectors.
 fn start(records: &[u8], counts: Counts, positions: &[u16], v: &mut [u16])
     requires { ⌜ Placed (now records) counts (now positions) × Fitting (now records) counts (now v) ⌝ }
-    ensures { λ _. ⌜ now (v .exit) ≡ flat (start (recordingBy (now (records .entry)) counts)) ⌝ }
+    ensures { λ _. ⌜ now (v .exit) ≡ flat (start (recordingBy (now (records .entry)) counts [])) ⌝ }
 {
     let n = records.len() / 4;
     let tasks = counts.tasks as usize;
@@ -300,20 +323,21 @@ fn start(records: &[u8], counts: Counts, positions: &[u16], v: &mut [u16])
 fn passes(
     records: &[u8],
     counts: Counts,
+    levels: &[u8],
     positions: &[u16],
     before: &[u16; MOST_EVENTS],
     budget: u32,
     v: &mut [u16],
 ) -> Outcome
     requires { ⌜ Placed (now records) counts (now positions) × Fitting (now records) counts (now v) × Before (eventsOf (now records)) (now before) ⌝ }
-    requires { ⌜ now v ≡ flat (start (recordingBy (now records) counts)) ⌝ }
-    ensures { λ r. ⌜ r .passes ≡ run (recordingBy (now (records .entry)) counts) budget .passes ⌝ }
-    ensures { λ r. ⌜ r .settled ≡ run (recordingBy (now (records .entry)) counts) budget .settled ⌝ }
-    ensures { λ _. ⌜ now (v .exit) ≡ flat (run (recordingBy (now (records .entry)) counts) budget .vectors) ⌝ }
+    requires { ⌜ now v ≡ flat (start (recordingBy (now records) counts (now levels))) ⌝ }
+    ensures { λ r. ⌜ r .passes ≡ run (recordingBy (now (records .entry)) counts (now (levels .entry))) budget .passes ⌝ }
+    ensures { λ r. ⌜ r .settled ≡ run (recordingBy (now (records .entry)) counts (now (levels .entry))) budget .settled ⌝ }
+    ensures { λ _. ⌜ now (v .exit) ≡ flat (run (recordingBy (now (records .entry)) counts (now (levels .entry))) budget .vectors) ⌝ }
 {
     let mut made: u32 = 0;
     while made < budget {
-        let changed = pass(records, counts, positions, before, v);
+        let changed = pass(records, counts, levels, positions, before, v);
         made += 1;
         if !changed {
             return Outcome {
@@ -332,31 +356,48 @@ fn passes(
 pub fn run(
     records: &[u8],
     counts: Counts,
+    levels: &[u8],
     positions: &[u16],
     before: &[u16; MOST_EVENTS],
     budget: u32,
     v: &mut [u16],
 ) -> Outcome
     requires { ⌜ Placed (now records) counts (now positions) × Fitting (now records) counts (now v) × Before (eventsOf (now records)) (now before) ⌝ }
-    ensures { λ r. ⌜ r .passes ≡ run (recordingBy (now (records .entry)) counts) budget .passes ⌝ }
-    ensures { λ r. ⌜ r .settled ≡ run (recordingBy (now (records .entry)) counts) budget .settled ⌝ }
-    ensures { λ _. ⌜ now (v .exit) ≡ flat (run (recordingBy (now (records .entry)) counts) budget .vectors) ⌝ }
+    ensures { λ r. ⌜ r .passes ≡ run (recordingBy (now (records .entry)) counts (now (levels .entry))) budget .passes ⌝ }
+    ensures { λ r. ⌜ r .settled ≡ run (recordingBy (now (records .entry)) counts (now (levels .entry))) budget .settled ⌝ }
+    ensures { λ _. ⌜ now (v .exit) ≡ flat (run (recordingBy (now (records .entry)) counts (now (levels .entry))) budget .vectors) ⌝ }
 {
     start(records, counts, positions, v);
-    passes(records, counts, positions, before, budget, v)
+    passes(records, counts, levels, positions, before, budget, v)
 }
 
-// The signal that event e is matched with: for a wait the one at hand on its semaphore, and then the next one is at hand.
-fn take_signal(records: &[u8], counts: Counts, e: usize, chain: &mut [u16; CHAINS]) -> Found
-    requires { ⌜ Records (now records) counts × Numbered (now records) e × Matching (now records) e (now chain) ⌝ }
-    ensures { λ r. ⌜ (r ≡ matched (eventsOf (now (records .entry))) e) × Below (length (eventsOf (now (records .entry)))) r ⌝ }
-    ensures { λ _. ⌜ Matching (now (records .entry)) (e + 1) (now (chain .exit)) ⌝ }
+// A place for each semaphore.
+const SEMAPHORES: usize = MOST_SEMAPHORES as usize;
+
+// The signal that event e is matched with. The first waits on a semaphore, as many as its start count, have none, and
+// `unmatched` counts them; a later one has the signal at hand, and then the next one is at hand.
+fn take_signal(
+    records: &[u8],
+    counts: Counts,
+    levels: &[u8],
+    e: usize,
+    unmatched: &mut [u16; SEMAPHORES],
+    chain: &mut [u16; CHAINS],
+) -> Found
+    requires { ⌜ Records (now records) counts × Numbered (now records) e × Matching (now records) (now levels) e (now unmatched) (now chain) ⌝ }
+    ensures { λ r. ⌜ (r ≡ matched (levelsBy (now (levels .entry))) (eventsOf (now (records .entry))) e) × Below (length (eventsOf (now (records .entry)))) r ⌝ }
+    ensures { λ _. ⌜ Matching (now (records .entry)) (now (levels .entry)) (e + 1) (now (unmatched .exit)) (now (chain .exit)) ⌝ }
 {
     let w = events::event_at(records, e);
     if w.kind != WAIT {
         return Found::Nothing;
     }
-    let head = MOST_EVENTS + (w.object as usize);
+    let x = w.object as usize;
+    if unmatched[x] < events::start_of(levels, w.object) {
+        unmatched[x] += 1;
+        return Found::Nothing;
+    }
+    let head = MOST_EVENTS + x;
     let a = chain[head] as usize;
     if records.len() / 4 <= a {
         return Found::Nothing;
@@ -369,18 +410,20 @@ fn take_signal(records: &[u8], counts: Counts, e: usize, chain: &mut [u16; CHAIN
 fn record_event(
     records: &[u8],
     counts: Counts,
+    levels: &[u8],
     before: &[u16; MOST_EVENTS],
     e: usize,
+    unmatched: &mut [u16; SEMAPHORES],
     chain: &mut [u16; CHAINS],
     v: &mut [u16],
 )
     requires { ⌜ Records (now records) counts × Fitting (now records) counts (now v) × Numbered (now records) e × Before (eventsOf (now records)) (now before) ⌝ }
-    requires { ⌜ Matching (now records) e (now chain) ⌝ }
-    ensures { λ _. ⌜ Becomes (λ E X. recordedEvent E X e) (now (records .entry)) counts (now (v .entry)) (now (v .exit)) ⌝ }
-    ensures { λ _. ⌜ Matching (now (records .entry)) (e + 1) (now (chain .exit)) ⌝ }
+    requires { ⌜ Matching (now records) (now levels) e (now unmatched) (now chain) ⌝ }
+    ensures { λ _. ⌜ Becomes (λ E X. recordedEvent E X e) (now (records .entry)) counts (now (levels .entry)) (now (v .entry)) (now (v .exit)) ⌝ }
+    ensures { λ _. ⌜ Matching (now (records .entry)) (now (levels .entry)) (e + 1) (now (unmatched .exit)) (now (chain .exit)) ⌝ }
 {
     step_one(records, counts, before, e, v);
-    let signal = take_signal(records, counts, e, chain);
+    let signal = take_signal(records, counts, levels, e, unmatched, chain);
     let tasks = counts.tasks as usize;
     raise_found(v, e, tasks, signal);
 }
@@ -389,19 +432,30 @@ fn record_event(
 fn record_all(
     records: &[u8],
     counts: Counts,
+    levels: &[u8],
     positions: &[u16],
     before: &[u16; MOST_EVENTS],
     v: &mut [u16],
 )
     requires { ⌜ Placed (now records) counts (now positions) × Fitting (now records) counts (now v) × Before (eventsOf (now records)) (now before) ⌝ }
-    ensures { λ _. ⌜ now (v .exit) ≡ flat (recorded (recordingBy (now (records .entry)) counts)) ⌝ }
+    ensures { λ _. ⌜ now (v .exit) ≡ flat (recorded (recordingBy (now (records .entry)) counts (now (levels .entry)))) ⌝ }
 {
     let n = records.len() / 4;
     start(records, counts, positions, v);
+    let mut unmatched = [0u16; SEMAPHORES];
     let mut chain = events::gather(records, SIGNAL, SIGNAL, MOST_SEMAPHORES);
     let mut e = 0;
     while e < n {
-        record_event(records, counts, before, e, &mut chain, v);
+        record_event(
+            records,
+            counts,
+            levels,
+            before,
+            e,
+            &mut unmatched,
+            &mut chain,
+            v,
+        );
         e += 1;
     }
 }
@@ -410,15 +464,16 @@ fn record_all(
 pub fn record(
     records: &[u8],
     counts: Counts,
+    levels: &[u8],
     positions: &[u16],
     before: &[u16; MOST_EVENTS],
     v: &mut [u16],
 )
-    requires { ⌜ Placed (now records) counts (now positions) × (size (recordingBy (now records) counts) * counts .tasks ≤ length (now v)) × Before (eventsOf (now records)) (now before) ⌝ }
-    ensures { λ _. ⌜ now (v .exit) ≡ flat (recorded (recordingBy (now (records .entry)) counts))
-        ++ drop (size (recordingBy (now (records .entry)) counts) * counts .tasks) (now (v .entry)) ⌝ }
+    requires { ⌜ Placed (now records) counts (now positions) × (length (eventsOf (now records)) * counts .tasks ≤ length (now v)) × Before (eventsOf (now records)) (now before) ⌝ }
+    ensures { λ _. ⌜ now (v .exit) ≡ flat (recorded (recordingBy (now (records .entry)) counts (now (levels .entry))))
+        ++ drop (length (eventsOf (now (records .entry))) * counts .tasks) (now (v .entry)) ⌝ }
 {
     let tasks = counts.tasks as usize;
     let nt = records.len() / 4 * tasks;
-    record_all(records, counts, positions, before, &mut v[..nt]);
+    record_all(records, counts, levels, positions, before, &mut v[..nt]);
 }

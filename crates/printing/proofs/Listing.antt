@@ -8,8 +8,7 @@ use native.Mathlib.Omega.{arith}
 use lib.ListN.{length, List·getD-eq-default}
 use Rattle.model.specs.Numbers.{each}
 use Rattle.model.specs.Recording.{noEvent}
-use Rattle.model.specs.File.{eventsOf, recordingBy}
-use Rattle.model.specs.declared.Counts.{Counts}
+use Rattle.model.specs.File.{eventsOf}
 use Rattle.model.specs.Pairs.{Entry, entryNumbers}
 use Rattle.model.proofs.Files.{events-length}
 use Rattle.printing.specs.Output.{Put}
@@ -53,16 +52,16 @@ next-line s a b m l i =
     let third : 3 * suc i + 2 ≡ suc (suc (suc (3 * i + 2))) = omega arith in
     rw (third, second, first)
 
-first-line : (s : List ℕ) (c : Counts) (p : Entry) (l : List ℕ) → nthLine s (p .first ∷ p .second ∷ p .mark ∷ l) 0 ≡ entryText (recordingBy s c) p
+first-line : (s : List ℕ) (p : Entry) (l : List ℕ) → nthLine s (p .first ∷ p .second ∷ p .mark ∷ l) 0 ≡ entryText (eventsOf s) p
 unfolding nthLine entryText
-first-line s c p l = refl
+first-line s p l = refl
 
 -- one line for each entry of the list that the numbers hold
-pub each-entry : (s : List ℕ) (c : Counts) (l : List Entry) (rest : List ℕ) → each (nthLine s (entryNumbers l ++ rest)) (length l) ≡ entriesText (recordingBy s c) l
+pub each-entry : (s : List ℕ) (l : List Entry) (rest : List ℕ) → each (nthLine s (entryNumbers l ++ rest)) (length l) ≡ entriesText (eventsOf s) l
 unfolding entryNumbers entriesText
-each-entry s c [] rest = none _
-each-entry s c (p ∷ l) rest =
+each-entry s [] rest = none _
+each-entry s (p ∷ l) rest =
     let L = entryNumbers (p ∷ l) ++ rest in
     each-cons (nthLine s L) (length l)
-    ∙ ap (λ (x : List ℕ). nthLine s L 0 ++ x) (each-alike _ _ (length l) (next-line s (p .first) (p .second) (p .mark) (entryNumbers l ++ rest)) ∙ each-entry s c l rest)
-    ∙ ap (λ (x : List ℕ). x ++ entriesText (recordingBy s c) l) (first-line s c p (entryNumbers l ++ rest))
+    ∙ ap (λ (x : List ℕ). nthLine s L 0 ++ x) (each-alike _ _ (length l) (next-line s (p .first) (p .second) (p .mark) (entryNumbers l ++ rest)) ∙ each-entry s l rest)
+    ∙ ap (λ (x : List ℕ). x ++ entriesText (eventsOf s) l) (first-line s p (entryNumbers l ++ rest))

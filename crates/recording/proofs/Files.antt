@@ -11,9 +11,9 @@ use Rattle.model.specs.declared.Refusal.{Refusal}
 use Rattle.model.specs.declared.Check.{Check}
 use Rattle.model.specs.declared.Reading.{Reading}
 use Rattle.model.specs.Recording.{size, firstFault}
-use Rattle.model.specs.File.{trailerAt, trailerOf, editionOf, eventsOf, recordBytes, recordingBy, recordingOf}
-use Rattle.model.specs.Reading.{extentMet, inRange, fileCheck, readingBy, readingOf, preambleOf, recordsOf}
-use Rattle.model.proofs.Files.{events-length, sound, reading-passed}
+use Rattle.model.specs.File.{trailerAt, trailerOf, eventsOf, recordBytes, levelCount, levelBytes, recordingBy, recordingOf}
+use Rattle.model.specs.Reading.{knownEdition, extentMet, inRange, fileCheck, readingBy, readingOf, preambleOf, recordsOf, startsOf}
+use Rattle.model.proofs.Files.{events-length, sound, reading-passed, trailer-read}
 
 -- ---- the records' part
 
@@ -21,18 +21,19 @@ pub part-length : (f : List ℕ) (h : Trailer) → h .start + 4 * h .records ≤
 unfolding recordBytes
 part-length f h l = simp (length-take, length-drop) (omega arith)
 
-recording-is : (f : List ℕ) → recordingOf f ≡ recordingBy (recordBytes f (trailerOf f)) (trailerOf f .counts)
+recording-is : (f : List ℕ) → recordingOf f ≡ recordingBy (recordBytes f (trailerOf f)) (trailerOf f .counts) (levelBytes f (trailerOf f))
 unfolding recordingOf
 recording-is f = refl
 
--- the check of the records
-same-check : (f : List ℕ) (h : Trailer) → h ≡ trailerOf f → h .start + 4 * h .records ≤ length f → (x : Check)
-    → x ≡ firstFault (recordingBy (recordBytes f h) (h .counts)) (h .records)
+-- the check of the records and the level bytes, s and b, that the code cuts out
+same-check : (f : List ℕ) (h : Trailer) → h ≡ trailerOf f → h .start + 4 * h .records ≤ length f
+    → (s b : List ℕ) → s ≡ recordBytes f h → b ≡ levelBytes f h
+    → (x : Check) → x ≡ firstFault (recordingBy s (h .counts) b) (h .records)
     → firstFault (recordingOf f) (size (recordingOf f)) ≡ x
-same-check f h q l x p =
+same-check f h q l s b t u x p =
     let e = part-length f h l in
     let n : length (eventsOf (recordBytes f h)) ≡ h .records = omega (arith, events-length (recordBytes f h)) in
-    rw (recording-is f, ← q, n) (sym p)
+    rw (recording-is f, ← q, n, ← t, ← u) (sym p)
 
 -- ---- the tests in their order
 
@@ -49,35 +50,35 @@ module _ (f : List ℕ) where
   unfolding fileCheck
   too-short a = rw (lt-leb 16 (length f) a)
 
-  module _ (a : 16 ≤ length f) where
-    pub other-edition : (editionOf f ≡ 1 → ⊥) → fileCheck f ≡ Check.Failed Refusal.Edition
+  module _ (a : 16 ≤ length f) (h : Trailer) (q : h ≡ trailerOf f) where
+    pub other-edition : knownEdition (h .counts) ≡ false → fileCheck f ≡ Check.Failed Refusal.Edition
     unfolding fileCheck
-    other-edition b = rw (le-leb 16 (length f) a, ne-eqb (editionOf f) 1 b)
+    other-edition b = rw (le-leb 16 (length f) a, ← q, b)
 
-    module _ (b : editionOf f ≡ 1) (h : Trailer) (q : h ≡ trailerOf f) where
-      pub no-extent : (h .start + 4 * h .records ≡ trailerAt f → ⊥) → fileCheck f ≡ Check.Failed Refusal.Extent
+    module _ (b : knownEdition (h .counts) ≡ true) where
+      pub no-extent : (h .start + 4 * h .records + levelCount (h .counts) ≡ trailerAt f → ⊥) → fileCheck f ≡ Check.Failed Refusal.Extent
       unfolding fileCheck extentMet
-      no-extent d = rw (le-leb 16 (length f) a, eq-eqb (editionOf f) 1 b, ← q, ne-eqb (h .start + 4 * h .records) (trailerAt f) d)
+      no-extent d = rw (le-leb 16 (length f) a, ← q, b, ne-eqb (h .start + 4 * h .records + levelCount (h .counts)) (trailerAt f) d)
 
-      module _ (d : h .start + 4 * h .records ≡ trailerAt f) where
+      module _ (d : h .start + 4 * h .records + levelCount (h .counts) ≡ trailerAt f) where
         pub out-of-range : inRange (h .counts) (h .records) ≡ false → fileCheck f ≡ Check.Failed Refusal.Count
         unfolding fileCheck extentMet
-        out-of-range e = rw (le-leb 16 (length f) a, eq-eqb (editionOf f) 1 b, ← q, eq-eqb (h .start + 4 * h .records) (trailerAt f) d, e)
+        out-of-range e = rw (le-leb 16 (length f) a, ← q, b, eq-eqb (h .start + 4 * h .records + levelCount (h .counts)) (trailerAt f) d, e)
 
-        pub by-records : inRange (h .counts) (h .records) ≡ true → (x : Check)
-            → x ≡ firstFault (recordingBy (recordBytes f h) (h .counts)) (h .records)
+        pub by-records : inRange (h .counts) (h .records) ≡ true
+            → (s b : List ℕ) → s ≡ recordBytes f h → b ≡ levelBytes f h
+            → (x : Check) → x ≡ firstFault (recordingBy s (h .counts) b) (h .records)
             → fileCheck f ≡ x
         unfolding fileCheck extentMet
-        by-records e x p =
-            let s = same-check f h q (omega arith) x p in
-            rw (le-leb 16 (length f) a, eq-eqb (editionOf f) 1 b, ← q, eq-eqb (h .start + 4 * h .records) (trailerAt f) d, e) s
+        by-records e s m t u x p =
+            let w = same-check f h q (omega arith) s m t u x p in
+            rw (le-leb 16 (length f) a, ← q, b, eq-eqb (h .start + 4 * h .records + levelCount (h .counts)) (trailerAt f) d, e) w
 
 -- ---- an accepted file
 
 -- reading answers a trailer only of a file whose checks pass, and then the file's
 pub accepted-is : (f : List ℕ) (h : Trailer) → readingOf f ≡ Reading.Accepted h → (h ≡ trailerOf f) × (fileCheck f ≡ Check.Passed)
-unfolding readingOf
-accepted-is f h q = let e = reading-passed f h q in let w : Reading.Accepted (trailerOf f) ≡ Reading.Accepted h = rw e at q in (cc, e)
+accepted-is f h q = (sym (trailer-read f h q), reading-passed f h q)
 
 -- and a refusal only of a file whose checks fail with it
 pub refused-is : (f : List ℕ) (r : Refusal) → readingOf f ≡ Reading.Refused r → fileCheck f ≡ Check.Failed r
@@ -90,7 +91,7 @@ refused-is f r q = go (fileCheck f) q
 
 module _ (f : List ℕ) (h : Trailer) (q : readingOf f ≡ Reading.Accepted h) where
   -- the parts end within the file
-  pub within : h .start + 4 * h .records + 16 ≡ length f
+  pub within : h .start + 4 * h .records + levelCount (h .counts) + 16 ≡ length f
   within = let (e, p) = accepted-is f h q in rw e (sound f p .extent)
 
   pub the-preamble : take (h .start) f ≡ preambleOf f
@@ -101,6 +102,10 @@ module _ (f : List ℕ) (h : Trailer) (q : readingOf f ≡ Reading.Accepted h) w
   unfolding recordsOf
   the-records = let (e, p) = accepted-is f h q in rw (p, e)
 
+  pub the-starts : levelBytes f h ≡ startsOf f
+  unfolding startsOf
+  the-starts = let (e, p) = accepted-is f h q in rw (p, e)
+
 module _ (f : List ℕ) (r : Refusal) (q : readingOf f ≡ Reading.Refused r) where
   pub no-preamble : [] ≡ preambleOf f
   unfolding preambleOf
@@ -109,3 +114,7 @@ module _ (f : List ℕ) (r : Refusal) (q : readingOf f ≡ Reading.Refused r) wh
   pub no-records : [] ≡ recordsOf f
   unfolding recordsOf
   no-records = rw (refused-is f r q)
+
+  pub no-starts : [] ≡ startsOf f
+  unfolding startsOf
+  no-starts = rw (refused-is f r q)

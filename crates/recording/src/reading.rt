@@ -3,7 +3,7 @@ ghost use mathlib.Core.Path.{_≡_};
 ghost use Prim.Native.Nat.{_+_, _≤_, _<_};
 ghost use lib.ListN.{length};
 ghost use Rattle.model.specs.File.{u32At, trailerOf};
-ghost use Rattle.model.specs.Reading.{readingOf, preambleOf, recordsOf};
+ghost use Rattle.model.specs.Reading.{readingOf, preambleOf, recordsOf, startsOf};
 use model::Check;
 use model::Counts;
 use model::Reading;
@@ -11,6 +11,7 @@ use model::Refusal;
 use model::Trailer;
 use rules::first_fault;
 use rules::in_range;
+use rules::known_edition;
 
 // The number of four bytes, little-endian.
 fn u32_at(s: &[u8], i: usize) -> usize
@@ -32,6 +33,7 @@ fn trailer_of(file: &[u8]) -> Trailer
             tasks: events::u16_at(file, t + 8),
             semaphores: events::u16_at(file, t + 10),
             cells: events::u16_at(file, t + 12),
+            edition: events::u16_at(file, t + 14),
         },
     }
 }
@@ -44,18 +46,20 @@ pub fn read(file: &[u8]) -> Reading
         return Reading::Refused(Refusal::Short);
     }
     let t = file.len() - 16;
-    if events::u16_at(file, t + 14) != 1 {
+    let h = trailer_of(file);
+    let counts = h.counts;
+    if !known_edition(counts) {
         return Reading::Refused(Refusal::Edition);
     }
-    let h = trailer_of(file);
-    if h.start + 4 * h.records != t {
+    let level_bytes = events::level_count(counts);
+    if h.start + 4 * h.records + level_bytes != t {
         return Reading::Refused(Refusal::Extent);
     }
-    let counts = h.counts;
     if !in_range(counts, h.records) {
         return Reading::Refused(Refusal::Count);
     }
-    match first_fault(events::records_of(file, h), counts, h.records) {
+    let levels = events::levels_of(file, h);
+    match first_fault(events::records_of(file, h), counts, levels, h.records) {
         Check::Passed => Reading::Accepted(h),
         Check::Failed(r) => Reading::Refused(r),
     }
@@ -80,6 +84,16 @@ pub fn records(file: &[u8]) -> &[u8]
 {
     match read(file) {
         Reading::Accepted(h) => events::records_of(file, h),
+        Reading::Refused(_) => &file[..0],
+    }
+}
+
+// The start bytes of the file, one for each semaphore; of a refused file, as of edition 1, the empty part.
+pub fn starts(file: &[u8]) -> &[u8]
+    ensures { λ r. ⌜ now r ≡ startsOf (now (file .entry)) ⌝ }
+{
+    match read(file) {
+        Reading::Accepted(h) => events::levels_of(file, h),
         Reading::Refused(_) => &file[..0],
     }
 }

@@ -85,7 +85,7 @@ module _ (f : List ℕ) where
         let E = recordingOf f in
         let l = listed E b in
         rw (q, the-events p, the-tasks p, the-records p)
-        (ap (λ (x : List ℕ). resultLine (size E) (tasks E) (run E b .passes) (run E b .settled) (length l) ++ x) (each-entry (recordBytes f (trailerOf f)) (trailerOf f .counts) l (drop (3 * length l) list)))
+        (ap (λ (x : List ℕ). resultLine (size E) (tasks E) (run E b .passes) (run E b .settled) (length l) ++ x) (each-entry (recordBytes f (trailerOf f)) l (drop (3 * length l) list)))
     the-answer (Check.Failed r) q = rw q
 
 -- ---- what the program prints, and what it leaves

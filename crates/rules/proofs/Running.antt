@@ -10,7 +10,7 @@ use Rattle.model.specs.declared.Event.{Event}
 use Rattle.model.specs.declared.Counts.{Counts}
 use Rattle.model.specs.declared.Check.{Check}
 use Rattle.model.specs.Numbers.{bit, count}
-use Rattle.model.specs.Recording.{join, ofTask, isOn, classOf, namesOf, knownKind, named, recordCheck}
+use Rattle.model.specs.Recording.{Levels, join, ofTask, isOn, classOf, namesOf, knownKind, named, recordCheck}
 use Rattle.model.specs.Reading.{inRange}
 use Rattle.model.proofs.Tests.{cases, tests, first, second}
 use Rattle.model.proofs.Checks.{failed-passed}
@@ -93,9 +93,9 @@ small c v f h =
     record { task = omega (tests, f .tasks); object = λ k. omega (tests, few-names c (v .kind) k f) }
 
 -- and so has one that passed the check
-pub passed-small : (c : Counts) (before : List Event) (v : Event) → Few c → Check.Passed ≡ recordCheck c before v → Small v
+pub passed-small : (c : Counts) (x : Levels) (before : List Event) (v : Event) → Few c → Check.Passed ≡ recordCheck c x before v → Small v
 unfolding recordCheck
-passed-small c before v f h =
+passed-small c x before v f h =
     cases (knownKind v)
     (λ a. cases (named c v) (small c v f) (λ b. failed-passed _ (rw (a, b) at (sym h))))
     (λ a. failed-passed _ (rw a at (sym h)))

@@ -21,8 +21,8 @@ ghost use Rattle.model.specs.Recording.{
   recordCheck,
   firstFault,
 };
-ghost use Rattle.model.specs.File.{recordingBy};
-ghost use Rattle.model.specs.Reading.{inRange};
+ghost use Rattle.model.specs.File.{levelsBy, recordingBy};
+ghost use Rattle.model.specs.Reading.{knownEdition, inRange};
 ghost use Rattle.rules.specs.Running.{places, Few, Small, Running, Room, notedOn, notedOwn};
 use model::Check;
 use model::Class;
@@ -30,6 +30,7 @@ use model::Counts;
 use model::Event;
 use model::FORK;
 use model::JOIN;
+use model::LAST_EDITION;
 use model::MOST_CELLS;
 use model::MOST_EVENTS;
 use model::MOST_SEMAPHORES;
@@ -77,6 +78,13 @@ fn names_of(counts: Counts, class: Class) -> u16
         Class::Task => counts.tasks,
         Class::Cell => counts.cells,
     }
+}
+
+// Whether the edition is one that is read and written.
+pub fn known_edition(counts: Counts) -> bool
+    ensures { λ r. ⌜ r ≡ knownEdition counts ⌝ }
+{
+    (1 <= counts.edition) & (counts.edition <= LAST_EDITION)
 }
 
 // Whether each count, and the number of records n, is in its range.
@@ -181,15 +189,22 @@ fn life_kept(on: &[u16; COUNTED], own: &[u16; PLACES], v: Event) -> bool
     false
 }
 
-// The same for the rule on waits.
-fn wait_kept(on: &[u16; COUNTED], v: Event) -> bool
+// The same for the rule on waits. The signals are taken off the waits and not added to the start count: no sum can wrap.
+fn wait_kept(on: &[u16; COUNTED], levels: &[u8], v: Event) -> bool
     requires { ⌜ Small v ⌝ }
-    ensures { λ r. ⌜ ((before : List Event) (own : List ℕ) → Running before (now (on .entry)) own → r ≡ waitKept before v) ⌝ }
+    ensures { λ r. ⌜ ((before : List Event) (own : List ℕ) → Running before (now (on .entry)) own
+        → r ≡ waitKept (levelsBy (now (levels .entry))) before v) ⌝ }
 {
     if v.kind != WAIT {
         return true;
     }
-    count_on(on, WAIT, v.object) < count_on(on, SIGNAL, v.object)
+    let start = events::start_of(levels, v.object);
+    let signals = count_on(on, SIGNAL, v.object);
+    let waits = count_on(on, WAIT, v.object);
+    if waits < signals {
+        return true;
+    }
+    waits - signals < start
 }
 
 // Checks the event v as record n.
@@ -197,11 +212,13 @@ fn record_check(
     on: &[u16; COUNTED],
     own: &[u16; PLACES],
     counts: Counts,
+    levels: &[u8],
     n: usize,
     v: Event,
 ) -> Check
     requires { ⌜ Few counts ⌝ }
-    ensures { λ r. ⌜ ((before : List Event) → Running before (now (on .entry)) (now (own .entry)) → length before ≡ n → r ≡ recordCheck counts before v) ⌝ }
+    ensures { λ r. ⌜ ((before : List Event) → Running before (now (on .entry)) (now (own .entry)) → length before ≡ n
+        → r ≡ recordCheck counts (levelsBy (now (levels .entry))) before v) ⌝ }
 {
     if !known_kind(v) {
         return Check::Failed(Refusal::Kind(n));
@@ -212,7 +229,7 @@ fn record_check(
     if !life_kept(on, own, v) {
         return Check::Failed(Refusal::Life(n));
     }
-    if !wait_kept(on, v) {
+    if !wait_kept(on, levels, v) {
         return Check::Failed(Refusal::Empty(n));
     }
     Check::Passed
@@ -233,16 +250,16 @@ fn note(on: &mut [u16; COUNTED], own: &mut [u16; PLACES], v: Event)
 }
 
 // The first faulty record among the first n.
-pub fn first_fault(records: &[u8], counts: Counts, n: usize) -> Check
+pub fn first_fault(records: &[u8], counts: Counts, levels: &[u8], n: usize) -> Check
     requires { ⌜ (4 * n ≤ length (now records)) × (inRange counts n ≡ true) ⌝ }
-    ensures { λ r. ⌜ r ≡ firstFault (recordingBy (now (records .entry)) counts) n ⌝ }
+    ensures { λ r. ⌜ r ≡ firstFault (recordingBy (now (records .entry)) counts (now (levels .entry))) n ⌝ }
 {
     let mut on = [0u16; COUNTED];
     let mut own = [0u16; PLACES];
     let mut i = 0;
     while i < n {
         let v = events::event_at(records, i);
-        let check = record_check(&on, &own, counts, i, v);
+        let check = record_check(&on, &own, counts, levels, i, v);
         if let Check::Failed(r) = check {
             return Check::Failed(r);
         }

@@ -1,14 +1,30 @@
 -- Laws on what the functions answer.
 -- Assumes nothing.
-use Prim.Native.Nat.{ℕ, _≤_}
-use mathlib.Core.Path.{_≡_}
-use native.Mathlib.Nat.{le-trans, lt-of-lt-of-le}
+use Prim.Native.Nat.{ℕ, _+_, _*_, _≤_}
+use mathlib.Core.Path.{_≡_, refl}
+use native.Mathlib.Nat.{le-trans, le-refl, lt-of-lt-of-le}
+use native.Mathlib.Omega.{arith}
 use Rattle.second.specs.declared.scan.Trailer.{Trailer}
-use Rattle.second.specs.Answers.{Refused, TrailerFor}
+use Rattle.second.specs.Answers.{Refused, TrailerOf, TrailerFor}
 
--- a trailer of as many bytes, counted another way
-pub trailer-for : {m n : ℕ} {h : Trailer} → TrailerFor m h → m ≡ n → TrailerFor n h
-trailer-for r e = rw e at r
+-- a trailer whose records and start bytes meet the length
+pub file-trailer : {start n starts size : ℕ} {h : Trailer} → TrailerOf start n starts h → start + 4 * n + starts + 16 ≡ size → TrailerFor size h
+file-trailer r e =
+    let w = r .within in
+    record {
+      sound = r .sound;
+      within = omega (arith, w .0, w .1, w .2);
+      extent = λ p. let x = r .exact p in omega (arith, x .0, x .1, x .2);
+    }
+
+-- a trailer has its own start bytes
+pub own-starts : {start n starts : ℕ} {h : Trailer} → TrailerOf start n starts h → TrailerOf start n (h .starts) h
+own-starts r =
+    record {
+      sound = r .sound;
+      within = (r .within .0, r .within .1, le-refl _);
+      exact = λ e. (r .exact e .0, r .exact e .1, refl);
+    }
 
 -- a refusal stays one under higher bounds
 pub wider : {top top′ n n′ number at : ℕ} → Refused top n number at → top ≤ top′ → n ≤ n′ → Refused top′ n′ number at

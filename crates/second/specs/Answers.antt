@@ -31,13 +31,36 @@ pub record Ranged (n t s c : ℕ) : Type 0 where
   pub semaphores : s ≤ 64
   pub cells : c ≤ 1024
 
--- a trailer of a file of so many bytes: refusals 1 to 4, or at least one task, and a start and records that meet the length
-pub record TrailerFor (size : ℕ) (h : Trailer) : Type 0 where
+-- an edition that is read and written: 1 or 2
+pub record Known (edition : ℕ) : Type 0 where
+  pub least : 1 ≤ edition
+  pub most : edition ≤ 2
+
+-- how many start bytes a file of an edition has
+pub record StartBytes (edition semaphores starts : ℕ) : Type 0 where
+  pub one : edition ≡ 1 → starts ≡ 0
+  pub two : edition ≡ 2 → starts ≡ semaphores
+  pub most : starts ≤ semaphores
+
+-- what a trailer says: refusals 1 to 4, or at least one task and a known edition
+pub record Sound (h : Trailer) : Type 0 where
   pub refusal : h .refusal ≤ 4
   pub ranges : Ranged (h .events) (h .tasks) (h .semaphores) (h .cells)
-  pub within : h .start + 4 * h .events ≤ size - 16
+  pub starts : StartBytes (h .edition) (h .semaphores) (h .starts)
   pub task : h .refusal ≡ 0 → 1 ≤ h .tasks
-  pub extent : h .refusal ≡ 0 → h .start + 4 * h .events + 16 ≡ size
+  pub known : h .refusal ≡ 0 → Known (h .edition)
+
+-- a trailer of these records and start bytes: a refusal says less of them
+pub record TrailerOf (start n starts : ℕ) (h : Trailer) : Type 0 where
+  pub sound : Sound h
+  pub within : (h .start ≤ start) × (h .events ≤ n) × (h .starts ≤ starts)
+  pub exact : h .refusal ≡ 0 → (h .start ≡ start) × (h .events ≡ n) × (h .starts ≡ starts)
+
+-- a trailer of a file of so many bytes: start, records and start bytes meet the length
+pub record TrailerFor (size : ℕ) (h : Trailer) : Type 0 where
+  pub sound : Sound h
+  pub within : h .start + 4 * h .events + h .starts ≤ size - 16
+  pub extent : h .refusal ≡ 0 → h .start + 4 * h .events + h .starts + 16 ≡ size
 
 -- a trailer that says nothing but its refusal
 pub record Blank (number : ℕ) (h : Trailer) : Type 0 where
@@ -47,6 +70,8 @@ pub record Blank (number : ℕ) (h : Trailer) : Type 0 where
   pub tasks : h .tasks ≡ 0
   pub semaphores : h .semaphores ≡ 0
   pub cells : h .cells ≡ 0
+  pub edition : h .edition ≡ 0
+  pub starts : h .starts ≡ 0
 
 -- the first fault of a trailer and the records behind its start
 pub record FirstFault (h : Trailer) (f : Fault) : Type 0 where
@@ -57,8 +82,10 @@ pub record FirstFault (h : Trailer) (f : Fault) : Type 0 where
 pub record Read (size : ℕ) (r : Reading) : Type 0 where
   pub refusal : Refused 8 (r .events) (r .refusal) (r .«record»)
   pub ranges : Ranged (r .events) (r .tasks) (r .semaphores) (r .cells)
+  pub starts : StartBytes (r .edition) (r .semaphores) (r .starts)
   pub task : r .refusal ≡ 0 → 1 ≤ r .tasks
-  pub extent : r .refusal ≡ 0 → r .start + 4 * r .events + 16 ≡ size
+  pub known : r .refusal ≡ 0 → Known (r .edition)
+  pub extent : r .refusal ≡ 0 → r .start + 4 * r .events + r .starts + 16 ≡ size
 
 -- a run of passes: unless its last one was quiet, it spends the budget
 pub record Passed (budget passes : ℕ) (settled : Bool) : Type 0 where
@@ -102,17 +129,24 @@ pub record Unanswered (r : Reply) (v w v′ w′ : List ℕ) : Type 0 where
   pub safe : v′ ≡ v
   pub recorded : w′ ≡ w
 
--- the refusal of writing so many record bytes, with room for so many bytes
-pub record WritingFault (size room number at : ℕ) : Type 0 where
-  pub refusal : Refused 12 (size / 4) number at
-  pub late : 8 < number → number ≡ 12
-  pub fits : number ≡ 0 → size + 16 ≤ room
-  pub out : number ≡ 12 → room < size + 16
+-- the refusal of a trailer to write with so many start bytes lent: its own, or 13, or 0 for none
+pub record StartsFault (h : Trailer) (count number : ℕ) : Type 0 where
+  pub most : number ≤ 13
+  pub late : 4 < number → number ≡ 13
+  pub trailer : number ≡ 0 → h .refusal ≡ 0
+  pub lent : number ≡ 0 → count ≡ h .starts
 
--- writing so many record bytes, with room for so many bytes
-pub record Written (size room : ℕ) (s : Sent) : Type 0 where
-  pub fault : WritingFault size room (s .refusal) (s .«record»)
-  pub length : s .refusal ≡ 0 → s .length ≡ size + 16
+-- the refusal of writing so many record bytes and start bytes, with room for so many bytes
+pub record WritingFault (size starts room number at : ℕ) : Type 0 where
+  pub refusal : Refused 13 (size / 4) number at
+  pub late : 8 < number → 12 ≤ number
+  pub fits : number ≡ 0 → size + starts + 16 ≤ room
+  pub out : number ≡ 12 → room < size + starts + 16
+
+-- writing so many record bytes and start bytes, with room for so many bytes
+pub record Written (size starts room : ℕ) (s : Sent) : Type 0 where
+  pub fault : WritingFault size starts room (s .refusal) (s .«record»)
+  pub length : s .refusal ≡ 0 → s .length ≡ size + starts + 16
 
 -- refused record bytes have no length, and leave the lent bytes as they came
 pub record Unsent (s : Sent) (o o′ : List ℕ) : Type 0 where

@@ -1,13 +1,14 @@
-// A second analyser, for tests: what document 01 asks, by another method. One reading fills arrays of
-// state and queues of signals, the k-th least and the list are sorted by counting. It is proved safe,
-// with the range of each number that it answers and what a refusal leaves; that the numbers are right is
-// not proved: the trial compares them with the library's.
+// A second analyser, for tests: what documents 01 and 02 ask, by another method. One reading fills
+// arrays of state, a wait's signal is found by counting, the k-th least and the list are sorted by
+// counting. It is proved safe, with the range of each number that it answers and what a refusal leaves;
+// that the numbers are right is not proved: the trial compares them with the library's.
 ghost use mathlib.Core.Path.{_≡_};
-ghost use Prim.Native.Nat.{_+_, _≤_};
+ghost use Prim.Native.Nat.{_/_, _≤_};
 ghost use lib.ListN.{length};
 ghost use Rattle.second.specs.Answers.{
   Refused,
-  TrailerFor,
+  TrailerOf,
+  StartsFault,
   Read,
   Analysed,
   Unanalysed,
@@ -25,7 +26,8 @@ mod scan;
 mod vectors;
 mod writing;
 
-// What a reading gives: a refusal's number and record; or 0, and what the trailer says.
+// What a reading gives: a refusal's number and record; or 0, what the trailer says, and how many start
+// bytes stand before it.
 pub struct Reading {
     pub refusal: u16,
     pub record: u16,
@@ -34,6 +36,8 @@ pub struct Reading {
     pub tasks: u16,
     pub semaphores: u16,
     pub cells: u16,
+    pub edition: u16,
+    pub starts: u16,
 }
 
 // What analysing gives: a refusal's number and record, and the pairs needed; or 0, and the result.
@@ -59,12 +63,14 @@ pub struct Sent {
     pub length: usize,
 }
 
-// Reads a file, and leaves its events, four numbers each, and their links.
-fn load(file: &[u8], events: &mut [u16], links: &mut [u16]) -> Reading
+// Reads a file, and leaves its events, four numbers each, their links, and the start counts.
+fn load(file: &[u8], events: &mut [u16], links: &mut [u16], starts: &mut [u16]) -> Reading
     ensures { λ r. ⌜ Read (length (now (file .entry))) r ⌝ }
 {
     let h = scan::read_trailer(file);
-    let fault = scan::first_fault(file, h, events, links);
+    let end = h.start + 4 * (h.events as usize);
+    scan::take_starts(&file[end..], h.starts, starts);
+    let fault = scan::first_fault(file, h, starts, events, links);
     Reading {
         refusal: fault.number,
         record: fault.record,
@@ -73,6 +79,8 @@ fn load(file: &[u8], events: &mut [u16], links: &mut [u16]) -> Reading
         tasks: h.tasks,
         semaphores: h.semaphores,
         cells: h.cells,
+        edition: h.edition,
+        starts: h.starts,
     }
 }
 
@@ -82,7 +90,8 @@ pub fn read(file: &[u8]) -> Reading
 {
     let mut events = [0u16; 4096];
     let mut links = [0u16; 4096];
-    load(file, &mut events, &mut links)
+    let mut starts = [0u16; 64];
+    load(file, &mut events, &mut links, &mut starts)
 }
 
 // Whether room is less than 2 × N × T.
@@ -113,6 +122,7 @@ fn work_fault(r: Reading, room: usize) -> scan::Fault
 fn analyse_events(
     events: &[u16],
     links: &[u16],
+    starts: &[u16],
     n: u16,
     budget: u32,
     slots: usize,
@@ -122,7 +132,7 @@ fn analyse_events(
 ) -> Findings
     ensures { λ o. ⌜ Analysed budget slots o × (1 ≤ o .refusal → o .refusal ≡ 10) ⌝ }
 {
-    let run = vectors::run(events, links, n, budget, safe);
+    let run = vectors::run(events, links, starts, n, budget, safe);
     vectors::replay(events, links, n, recorded);
     let pairs = listing::list_pairs(events, n, safe, recorded, list);
     Findings {
@@ -151,7 +161,8 @@ pub fn analyse(
 {
     let mut events = [0u16; 4096];
     let mut links = [0u16; 4096];
-    let r = load(file, &mut events, &mut links);
+    let mut starts = [0u16; 64];
+    let r = load(file, &mut events, &mut links, &mut starts);
     let fault = work_fault(r, room);
     if fault.number != 0 {
         return Findings {
@@ -163,7 +174,17 @@ pub fn analyse(
         };
     }
     let n = r.events;
-    analyse_events(&events, &links, n, budget, slots, safe, recorded, list)
+    analyse_events(
+        &events,
+        &links,
+        &starts,
+        n,
+        budget,
+        slots,
+        safe,
+        recorded,
+        list,
+    )
 }
 
 // How events a and b stand to each other: 1 a first, 2 b first, 3 open, 4 sure.
@@ -187,6 +208,7 @@ fn related(events: &[u16], safe: &[u16], recorded: &[u16], a: u16, b: u16) -> u1
 fn ask_events(
     events: &[u16],
     links: &[u16],
+    starts: &[u16],
     n: u16,
     a: u16,
     b: u16,
@@ -196,7 +218,7 @@ fn ask_events(
 ) -> u16
     ensures { λ r. ⌜ (1 ≤ r) × (r ≤ 4) ⌝ }
 {
-    vectors::run(events, links, n, budget, safe);
+    vectors::run(events, links, starts, n, budget, safe);
     vectors::replay(events, links, n, recorded);
     related(events, safe, recorded, a, b)
 }
@@ -245,7 +267,8 @@ pub fn ask(
 {
     let mut events = [0u16; 4096];
     let mut links = [0u16; 4096];
-    let r = load(file, &mut events, &mut links);
+    let mut starts = [0u16; 64];
+    let r = load(file, &mut events, &mut links, &mut starts);
     let fault = question_fault(r, a, b, room);
     if fault.number != 0 {
         return Reply {
@@ -257,7 +280,7 @@ pub fn ask(
     let n = r.events;
     let x = a as u16;
     let y = b as u16;
-    let answer = ask_events(&events, &links, n, x, y, budget, safe, recorded);
+    let answer = ask_events(&events, &links, &starts, n, x, y, budget, safe, recorded);
     Reply {
         refusal: 0,
         record: 0,
@@ -265,28 +288,58 @@ pub fn ask(
     }
 }
 
-// Refusals 3 and 4 of writing, or the trailer of the file to write.
-fn counted(records: &[u8], tasks: u16, semaphores: u16, cells: u16) -> scan::Trailer
-    ensures { λ h. ⌜ TrailerFor (length (now (records .entry)) + 16) h ⌝ }
+// Refusals 2 to 4 of writing, or the trailer of the file to write.
+fn counted(records: &[u8], tasks: u16, semaphores: u16, cells: u16, edition: u16) -> scan::Trailer
+    ensures { λ h. ⌜ TrailerOf 0 (length (now (records .entry)) / 4) (h .starts) h ⌝ }
 {
+    if scan::unknown(edition) {
+        return scan::refused(2);
+    }
     if records.len() % 4 != 0 {
         return scan::refused(3);
     }
-    scan::ranged(0, records.len() / 4, tasks, semaphores, cells)
+    let n = records.len() / 4;
+    let starts = scan::start_bytes(edition, semaphores);
+    scan::ranged(0, n, tasks, semaphores, cells, edition, starts)
 }
 
-// The refusal of the counts or of a record, or else 12 where room is less than the file needs.
-fn writing_fault(records: &[u8], h: scan::Trailer, room: usize) -> scan::Fault
-    requires { ⌜ TrailerFor (length (now records) + 16) h ⌝ }
-    ensures { λ f. ⌜ WritingFault (length (now (records .entry))) room (f .number) (f .«record») ⌝ }
+// The refusal of a trailer, or else 13 where another number of start bytes is lent.
+fn starts_fault(h: scan::Trailer, lent: usize) -> u16
+    requires { ⌜ h .refusal ≤ 4 ⌝ }
+    ensures { λ r. ⌜ StartsFault h lent r ⌝ }
 {
+    if h.refusal != 0 {
+        return h.refusal;
+    }
+    if lent != h.starts as usize {
+        return 13;
+    }
+    0
+}
+
+// The refusal of the counts, of the start bytes or of a record, or else 12 where room is less than the
+// file needs.
+fn writing_fault(records: &[u8], starts: &[u8], h: scan::Trailer, room: usize) -> scan::Fault
+    requires { ⌜ TrailerOf 0 (length (now records) / 4) (h .starts) h ⌝ }
+    ensures { λ f. ⌜ WritingFault (length (now (records .entry))) (length (now (starts .entry))) room (f .number) (f .«record») ⌝ }
+{
+    let number = starts_fault(h, starts.len());
+    if number != 0 {
+        return scan::Fault { number, record: 0 };
+    }
     let mut events = [0u16; 4096];
     let mut links = [0u16; 4096];
-    let fault = scan::first_fault(records, h, &mut events, &mut links);
+    let mut counts = [0u16; 64];
+    scan::take_starts(starts, h.starts, &mut counts);
+    let fault = scan::first_fault(records, h, &counts, &mut events, &mut links);
     if fault.number != 0 {
         return fault;
     }
-    let number = if room < records.len() + 16 { 12 } else { 0 };
+    let number = if room < records.len() + starts.len() + 16 {
+        12
+    } else {
+        0
+    };
     scan::Fault { number, record: 0 }
 }
 
@@ -296,14 +349,16 @@ pub fn write(
     tasks: u16,
     semaphores: u16,
     cells: u16,
+    edition: u16,
+    starts: &[u8],
     room: usize,
     out: &mut [u8],
 ) -> Sent
-    ensures { λ s. ⌜ Written (length (now (records .entry))) room s ⌝ }
+    ensures { λ s. ⌜ Written (length (now (records .entry))) (length (now (starts .entry))) room s ⌝ }
     ensures { λ s. ⌜ (1 ≤ s .refusal → Unsent s (now (out .entry)) (now (out .exit))) ⌝ }
 {
-    let h = counted(records, tasks, semaphores, cells);
-    let fault = writing_fault(records, h, room);
+    let h = counted(records, tasks, semaphores, cells, edition);
+    let fault = writing_fault(records, starts, h, room);
     if fault.number != 0 {
         return Sent {
             refusal: fault.number,
@@ -311,10 +366,10 @@ pub fn write(
             length: 0,
         };
     }
-    writing::put_file(records, h.events, tasks, semaphores, cells, out);
+    writing::put_file(records, starts, h, out);
     Sent {
         refusal: 0,
         record: 0,
-        length: records.len() + 16,
+        length: records.len() + starts.len() + 16,
     }
 }

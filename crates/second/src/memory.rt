@@ -88,3 +88,7 @@ pub(crate) fn place(e: u16, t: u16) -> usize {
 pub(crate) fn get(s: &[u16], e: u16, f: u16) -> u16 {
     at(s, field(e, f))
 }
+
+pub(crate) fn is_on(events: &[u16], e: u16, kind: u16, object: u16) -> bool {
+    get(events, e, KIND) == kind && get(events, e, OBJECT) == object
+}

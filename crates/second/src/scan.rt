@@ -1,9 +1,21 @@
 // One reading of a file, from the first record to the last: the refusals, each record's place in its
 // task, and the events that it follows. The state is a slice of numbers by task and by semaphore;
-// an event in it is its number plus 1, and 0 stands for none.
+// an event in it is its number plus 1, and 0 stands for none. The start counts are a slice of numbers
+// by semaphore, all 0 in edition 1.
 ghost use Prim.Native.Nat.{_+_, _*_, _≤_};
 ghost use lib.ListN.{length};
-ghost use Rattle.second.specs.Answers.{Refused, RecordFault, TrailerFor, Blank, FirstFault};
+ghost use mathlib.Core.Path.{_≡_};
+ghost use mathlib.Core.Bool.{false};
+ghost use Rattle.second.specs.Answers.{
+  Refused,
+  RecordFault,
+  Known,
+  StartBytes,
+  TrailerOf,
+  TrailerFor,
+  Blank,
+  FirstFault,
+};
 use crate::memory::KIND;
 use crate::memory::OBJECT;
 use crate::memory::POSITION;
@@ -13,6 +25,7 @@ use crate::memory::byte;
 use crate::memory::double;
 use crate::memory::field;
 use crate::memory::get;
+use crate::memory::is_on;
 use crate::memory::put;
 use crate::memory::up;
 use crate::memory::word;
@@ -25,12 +38,10 @@ const STEPS: u16 = 256;
 const FORK: u16 = 512;
 
 const JOINED: u16 = 768;
-// By semaphore, a queue of the signals that no wait has taken: its front and its back.
-const FRONT: u16 = 1024;
+// By semaphore: how many signals and how many waits.
+const SIGNALS: u16 = 1024;
 
-const BACK: u16 = 1280;
-// By event plus 1: the signal behind it in its queue.
-const BEHIND: u16 = 1536;
+const WAITS: u16 = 1280;
 
 // By event, what it follows: the event before it in its task or the fork of its task; at a join the
 // fork and the last event of the joined task; at a wait the signal that it takes.
@@ -42,7 +53,7 @@ pub(crate) const ENDED: u16 = 2;
 
 pub(crate) const TAKEN: u16 = 3;
 
-// A trailer; refusal is 0 where 1 to 4 do not apply.
+// A trailer, with the number of start bytes before it; refusal is 0 where 1 to 4 do not apply.
 pub(crate) struct Trailer {
     pub(crate) refusal: u16,
     pub(crate) start: usize,
@@ -50,6 +61,8 @@ pub(crate) struct Trailer {
     pub(crate) tasks: u16,
     pub(crate) semaphores: u16,
     pub(crate) cells: u16,
+    pub(crate) edition: u16,
+    pub(crate) starts: u16,
 }
 
 // A refusal by a record; the number is 0 where there is none.
@@ -69,12 +82,40 @@ pub(crate) fn refused(number: u16) -> Trailer
         tasks: 0,
         semaphores: 0,
         cells: 0,
+        edition: 0,
+        starts: 0,
     }
 }
 
+// No edition of the file but 1 and 2.
+pub(crate) fn unknown(edition: u16) -> bool
+    ensures { λ r. ⌜ (r ≡ false → Known edition) ⌝ }
+{
+    if edition < 1 {
+        return true;
+    }
+    2 < edition
+}
+
+// How many start bytes a file of an edition has.
+pub(crate) fn start_bytes(edition: u16, semaphores: u16) -> u16
+    ensures { λ r. ⌜ StartBytes edition semaphores r ⌝ }
+{
+    if edition == 2 { semaphores } else { 0 }
+}
+
 // A trailer of these counts, or refusal 4 where one is beyond its range.
-pub(crate) fn ranged(start: usize, n: usize, tasks: u16, semaphores: u16, cells: u16) -> Trailer
-    ensures { λ h. ⌜ TrailerFor (start + 4 * n + 16) h ⌝ }
+pub(crate) fn ranged(
+    start: usize,
+    n: usize,
+    tasks: u16,
+    semaphores: u16,
+    cells: u16,
+    edition: u16,
+    starts: u16,
+) -> Trailer
+    requires { ⌜ Known edition × StartBytes edition semaphores starts ⌝ }
+    ensures { λ h. ⌜ TrailerOf start n starts h ⌝ }
 {
     if tasks < 1 {
         return refused(4);
@@ -98,6 +139,8 @@ pub(crate) fn ranged(start: usize, n: usize, tasks: u16, semaphores: u16, cells:
         tasks,
         semaphores,
         cells,
+        edition,
+        starts,
     }
 }
 
@@ -111,15 +154,33 @@ pub(crate) fn read_trailer(file: &[u8]) -> Trailer
     }
     let end = size - 16;
     let t = &file[end..];
-    if word(t, 14) != 1 {
+    let edition = word(t, 14);
+    if unknown(edition) {
         return refused(2);
     }
     let start = double(t, 0) as usize;
     let records = double(t, 4) as usize;
-    if start + 4 * records != end {
+    let semaphores = word(t, 10);
+    let starts = start_bytes(edition, semaphores);
+    if start + 4 * records + starts as usize != end {
         return refused(3);
     }
-    ranged(start, records, word(t, 8), word(t, 10), word(t, 12))
+    ranged(
+        start,
+        records,
+        word(t, 8),
+        semaphores,
+        word(t, 12),
+        edition,
+        starts,
+    )
+}
+
+// The start counts, out of n start bytes.
+pub(crate) fn take_starts(part: &[u8], n: u16, starts: &mut [u16]) {
+    for s in 0..n {
+        put(starts, s as usize, byte(part, s as usize));
+    }
 }
 
 fn slot(base: u16, i: u16) -> usize {
@@ -165,8 +226,16 @@ fn life_broken(state: &[u16], task: u16, kind: u16, object: u16) -> bool {
     false
 }
 
+// Start count and signals so far do not outnumber the waits so far.
+fn is_empty(starts: &[u16], state: &[u16], object: u16) -> bool {
+    let start = at(starts, object as usize) as u32;
+    let signals = at(state, slot(SIGNALS, object)) as u32;
+    let waits = at(state, slot(WAITS, object)) as u32;
+    start + signals <= waits
+}
+
 // Refusals 5 to 8 of record e; 0 for none.
-fn fault_of(events: &[u16], e: u16, h: Trailer, state: &[u16]) -> u16
+fn fault_of(events: &[u16], e: u16, h: Trailer, starts: &[u16], state: &[u16]) -> u16
     ensures { λ r. ⌜ RecordFault r ⌝ }
 {
     let task = get(events, e, TASK);
@@ -181,32 +250,50 @@ fn fault_of(events: &[u16], e: u16, h: Trailer, state: &[u16]) -> u16
     if life_broken(state, task, kind, object) {
         return 7;
     }
-    if kind == 2 && at(state, slot(FRONT, object)) == 0 {
+    if kind == 2 && is_empty(starts, state, object) {
         return 8;
     }
     0
 }
 
-// Event e goes to the back of its semaphore's queue.
-fn note_signal(e: u16, object: u16, state: &mut [u16]) {
-    let front = at(state, slot(FRONT, object));
-    let back = at(state, slot(BACK, object));
-    let place = if front == 0 {
-        slot(FRONT, object)
-    } else {
-        slot(BEHIND, back)
-    };
-    put(state, place, up(e));
-    put(state, slot(BACK, object), up(e));
-    put(state, slot(BEHIND, up(e)), 0);
+// One more at a place of the state.
+fn add_one(state: &mut [u16], i: usize) {
+    let count = up(at(state, i));
+    put(state, i, count);
 }
 
-// Event e takes the front of its semaphore's queue.
-fn note_wait(e: u16, object: u16, links: &mut [u16], state: &mut [u16]) {
-    let front = at(state, slot(FRONT, object));
-    put(links, field(e, TAKEN), front);
-    let next = at(state, slot(BEHIND, front));
-    put(state, slot(FRONT, object), next);
+// The signal on a semaphore before event e that has so many signals on it before itself, plus 1; 0 for none.
+fn signal_after(events: &[u16], e: u16, object: u16, skipped: u16) -> u16 {
+    let mut left = skipped;
+    for s in 0..e {
+        if is_on(events, s, 1, object) {
+            if left == 0 {
+                return up(s);
+            }
+            left -= 1;
+        }
+    }
+    0
+}
+
+// Event e takes a signal, but for the first waits, as many as the start count.
+fn note_wait(
+    e: u16,
+    object: u16,
+    starts: &[u16],
+    events: &[u16],
+    links: &mut [u16],
+    state: &mut [u16],
+) {
+    let start = at(starts, object as usize);
+    let waits = at(state, slot(WAITS, object));
+    let signal = if start <= waits {
+        signal_after(events, e, object, waits - start)
+    } else {
+        0
+    };
+    put(links, field(e, TAKEN), signal);
+    add_one(state, slot(WAITS, object));
 }
 
 fn note_join(e: u16, object: u16, links: &mut [u16], state: &mut [u16]) {
@@ -227,13 +314,15 @@ fn note_step(e: u16, task: u16, events: &mut [u16], links: &mut [u16], state: &m
 }
 
 // What the kind of event e changes.
-fn note_kind(e: u16, kind: u16, object: u16, links: &mut [u16], state: &mut [u16]) {
+fn note_kind(e: u16, starts: &[u16], events: &[u16], links: &mut [u16], state: &mut [u16]) {
+    let kind = get(events, e, KIND);
+    let object = get(events, e, OBJECT);
     if kind == 1 {
-        note_signal(e, object, state);
+        add_one(state, slot(SIGNALS, object));
         return;
     }
     if kind == 2 {
-        note_wait(e, object, links, state);
+        note_wait(e, object, starts, events, links, state);
         return;
     }
     if kind == 3 {
@@ -246,12 +335,10 @@ fn note_kind(e: u16, kind: u16, object: u16, links: &mut [u16], state: &mut [u16
 }
 
 // Event e is taken into the state.
-fn note(e: u16, events: &mut [u16], links: &mut [u16], state: &mut [u16]) {
+fn note(e: u16, starts: &[u16], events: &mut [u16], links: &mut [u16], state: &mut [u16]) {
     let task = get(events, e, TASK);
-    let kind = get(events, e, KIND);
-    let object = get(events, e, OBJECT);
     note_step(e, task, events, links, state);
-    note_kind(e, kind, object, links, state);
+    note_kind(e, starts, events, links, state);
 }
 
 // Record e is taken out, checked, and taken into the state; its refusal, or 0.
@@ -259,6 +346,7 @@ fn step(
     records: &[u8],
     e: u16,
     h: Trailer,
+    starts: &[u16],
     events: &mut [u16],
     links: &mut [u16],
     state: &mut [u16],
@@ -266,11 +354,11 @@ fn step(
     ensures { λ r. ⌜ RecordFault r ⌝ }
 {
     decode(records, e, events);
-    let number = fault_of(events, e, h, state);
+    let number = fault_of(events, e, h, starts, state);
     if number != 0 {
         return number;
     }
-    note(e, events, links, state);
+    note(e, starts, events, links, state);
     0
 }
 
@@ -278,6 +366,7 @@ fn step(
 pub(crate) fn scan(
     records: &[u8],
     h: Trailer,
+    starts: &[u16],
     events: &mut [u16],
     links: &mut [u16],
     state: &mut [u16],
@@ -286,7 +375,7 @@ pub(crate) fn scan(
 {
     let n = h.events;
     for e in 0..n {
-        let number = step(records, e, h, events, links, state);
+        let number = step(records, e, h, starts, events, links, state);
         if number != 0 {
             return Fault { number, record: e };
         }
@@ -298,7 +387,13 @@ pub(crate) fn scan(
 }
 
 // The refusal of a trailer, or else of the first faulty record behind its start.
-pub(crate) fn first_fault(file: &[u8], h: Trailer, events: &mut [u16], links: &mut [u16]) -> Fault
+pub(crate) fn first_fault(
+    file: &[u8],
+    h: Trailer,
+    starts: &[u16],
+    events: &mut [u16],
+    links: &mut [u16],
+) -> Fault
     requires { ⌜ (h .refusal ≤ 4) × (h .start ≤ length (now file)) ⌝ }
     ensures { λ f. ⌜ FirstFault h f ⌝ }
 {
@@ -309,6 +404,6 @@ pub(crate) fn first_fault(file: &[u8], h: Trailer, events: &mut [u16], links: &m
         };
     }
     let start = h.start;
-    let mut state = [0u16; 2800];
-    scan(&file[start..], h, events, links, &mut state)
+    let mut state = [0u16; 1536];
+    scan(&file[start..], h, starts, events, links, &mut state)
 }

@@ -7,6 +7,7 @@ use crate::memory::POSITION;
 use crate::memory::TASK;
 use crate::memory::at;
 use crate::memory::get;
+use crate::memory::is_on;
 use crate::memory::place;
 use crate::memory::put;
 use crate::memory::up;
@@ -92,10 +93,6 @@ pub(crate) fn before(events: &[u16], v: &[u16], a: u16, b: u16) -> bool {
     a != b && get(events, a, POSITION) <= at(v, place(b, get(events, a, TASK)))
 }
 
-fn is_on(events: &[u16], e: u16, kind: u16, object: u16) -> bool {
-    get(events, e, KIND) == kind && get(events, e, OBJECT) == object
-}
-
 // How many waits on e's semaphore are ordered before e.
 fn earlier_waits(events: &[u16], n: u16, v: &[u16], e: u16) -> u16 {
     let object = get(events, e, OBJECT);
@@ -161,42 +158,69 @@ fn serve_all(v: &mut [u16], e: u16, found: &[u16], count: u16, k: u16) -> bool {
     rose
 }
 
+// What is left of k signals when so many are there from the start.
+fn lowered(k: u16, start: u16) -> u16 {
+    if start < k { k - start } else { 0 }
+}
+
 // Step 2 for a wait e.
-fn serve(events: &[u16], n: u16, v: &mut [u16], e: u16) -> bool {
+fn serve(events: &[u16], starts: &[u16], n: u16, v: &mut [u16], e: u16) -> bool {
     let mut found = [0u16; 1024];
-    let k = up(earlier_waits(events, n, v, e));
+    let start = at(starts, get(events, e, OBJECT) as usize);
+    let k = lowered(up(earlier_waits(events, n, v, e)), start);
     let count = candidates(events, n, v, e, &mut found);
-    if count < k {
+    if k == 0 || count < k {
         return false;
     }
     serve_all(v, e, &found, count, k)
 }
 
-fn raise_event(events: &[u16], links: &[u16], n: u16, v: &mut [u16], e: u16) -> bool {
+fn raise_event(
+    events: &[u16],
+    links: &[u16],
+    starts: &[u16],
+    n: u16,
+    v: &mut [u16],
+    e: u16,
+) -> bool {
     let followed = follow(v, links, e);
     if get(events, e, KIND) != 2 {
         return followed;
     }
-    serve(events, n, v, e) || followed
+    serve(events, starts, n, v, e) || followed
 }
 
-fn pass(events: &[u16], links: &[u16], n: u16, v: &mut [u16]) -> bool {
+fn pass(events: &[u16], links: &[u16], starts: &[u16], n: u16, v: &mut [u16]) -> bool {
     let mut rose = false;
     for e in 0..n {
-        rose = raise_event(events, links, n, v, e) || rose;
+        rose = raise_event(events, links, starts, n, v, e) || rose;
     }
     rose
 }
 
 // The safe vectors.
-pub(crate) fn run(events: &[u16], links: &[u16], n: u16, budget: u32, v: &mut [u16]) -> Passes
+pub(crate) fn run(
+    events: &[u16],
+    links: &[u16],
+    starts: &[u16],
+    n: u16,
+    budget: u32,
+    v: &mut [u16],
+) -> Passes
     ensures { λ r. ⌜ Passed budget (r .passes) (r .settled) ⌝ }
 {
     start(events, n, v);
-    run_passes(events, links, n, budget, v)
+    run_passes(events, links, starts, n, budget, v)
 }
 
-fn run_passes(events: &[u16], links: &[u16], n: u16, budget: u32, v: &mut [u16]) -> Passes
+fn run_passes(
+    events: &[u16],
+    links: &[u16],
+    starts: &[u16],
+    n: u16,
+    budget: u32,
+    v: &mut [u16],
+) -> Passes
     ensures { λ r. ⌜ Passed budget (r .passes) (r .settled) ⌝ }
 {
     let mut passes: u32 = 0;
@@ -204,7 +228,7 @@ fn run_passes(events: &[u16], links: &[u16], n: u16, budget: u32, v: &mut [u16])
     while left > 0 {
         left -= 1;
         passes += 1;
-        if !pass(events, links, n, v) {
+        if !pass(events, links, starts, n, v) {
             return Passes {
                 passes,
                 settled: true,

@@ -11,6 +11,20 @@ pub(crate) fn put_byte(s: &mut [u8], i: usize, v: u8) {
     }
 }
 
+pub(crate) fn put_at(s: &mut [u8], i: u32, v: u8) {
+    put_byte(s, i as usize, v);
+}
+
+// Puts bytes at a place, and answers where they end.
+pub(crate) fn put_bytes(s: &mut [u8], at: u32, bytes: &[u8]) -> u32 {
+    let mut end = at;
+    for i in 0..bytes.len() {
+        put_at(s, end, byte(bytes, i));
+        end = up(end);
+    }
+    end
+}
+
 pub(crate) fn number(s: &[u16], i: usize) -> u16 {
     if i < s.len() { s[i] } else { 0 }
 }

@@ -1,26 +1,22 @@
 // The library and the second analyser on one file. Lent memory is filled with a mark first, so that
 // what should not change is seen not to.
-use crate::bytes::all_byte_marks;
 use crate::bytes::all_marks;
 use crate::bytes::byte;
 use crate::bytes::fill;
-use crate::bytes::fill_bytes;
 use crate::bytes::number;
 use crate::bytes::same_bytes;
 use crate::bytes::same_numbers;
+use crate::worked::digit;
 use model::Analysis;
 use model::Answer;
 use model::Event;
 use model::Item;
 use model::Reading;
 use model::Refusal;
-use model::Written;
 
 const MARK: u16 = 43981;
 
-const BYTE_MARK: u8 = 171;
-
-fn same_refusal(r: Refusal, number: u16, record: u16) -> bool {
+pub(crate) fn same_refusal(r: Refusal, number: u16, record: u16) -> bool {
     r.number() as u16 == number && r.record() == record as usize
 }
 
@@ -45,7 +41,7 @@ fn same_answer(answer: Analysis, o: second::Findings) -> bool {
 }
 
 // N × T.
-fn product(n: u16, t: u16) -> usize {
+pub(crate) fn product(n: u16, t: u16) -> usize {
     n as usize * t as usize
 }
 
@@ -219,6 +215,7 @@ fn same_reading(reading: Reading, r: second::Reading) -> bool {
                 && h.counts.tasks == r.tasks
                 && h.counts.semaphores == r.semaphores
                 && h.counts.cells == r.cells
+                && h.counts.edition == r.edition
         }
         Reading::Refused(x) => same_refusal(x, r.refusal, r.record),
     }
@@ -263,135 +260,50 @@ fn same_cut_walk(records: &[u8], n: u16) -> bool {
     same_walk(&records[0..size - 1], n - 1)
 }
 
-// The two parts of an accepted file start at 0 and at the first record.
-fn same_parts(file: &[u8], preamble: &[u8], records: &[u8], r: second::Reading) -> bool {
+// A part of a file is the first n bytes from where it should start.
+pub(crate) fn same_part(part: &[u8], from: &[u8], n: usize) -> bool {
+    part.len() == n && same_bytes(part, from, n)
+}
+
+// Records and start bytes follow one another, in what is behind the preamble.
+fn same_rest(file: &[u8], rest: &[u8], r: second::Reading) -> bool {
+    let end = r.events as usize * 4;
+    if rest.len() < end {
+        return false;
+    }
+    same_part(recording::records(file), rest, end)
+        && same_part(recording::starts(file), &rest[end..], r.starts as usize)
+}
+
+// The three parts of an accepted file.
+fn same_parts(file: &[u8], r: second::Reading) -> bool {
     let start = r.start;
     if file.len() < start {
         return false;
     }
-    preamble.len() == start
-        && records.len() == r.events as usize * 4
-        && same_bytes(preamble, file, start)
-        && same_bytes(records, &file[start..], records.len())
+    same_part(recording::preamble(file), file, start) && same_rest(file, &file[start..], r)
 }
 
-// Reading, the preamble, the records' part and the walk.
+// The parts of a refused file are empty.
+fn no_parts(file: &[u8]) -> bool {
+    let records = recording::records(file);
+    recording::preamble(file).len() == 0
+        && records.len() == 0
+        && recording::starts(file).len() == 0
+        && same_walk(records, 0)
+}
+
+// Reading, the preamble, the records' part, the start bytes and the walk.
 pub(crate) fn reading_agrees(file: &[u8]) -> bool {
     let r = second::read(file);
-    let preamble = recording::preamble(file);
-    let records = recording::records(file);
     if !same_reading(recording::read(file), r) {
         return false;
     }
     if r.refusal != 0 {
-        return preamble.len() == 0 && records.len() == 0 && same_walk(records, 0);
+        return no_parts(file);
     }
-    same_parts(file, preamble, records, r)
-        && same_walk(records, r.events)
-        && same_cut_walk(records, r.events)
-}
-
-fn same_written(written: Written, o: second::Sent) -> bool {
-    match written {
-        Written::Length(n) => o.refusal == 0 && n == o.length,
-        Written::Refused(r) => same_refusal(r, o.refusal, o.record),
-    }
-}
-
-// Reading what was written gives the same records and counts, at the start of the file.
-fn read_back(file: &[u8], records: &[u8], tasks: u16, semaphores: u16, cells: u16) -> bool {
-    let r = second::read(file);
-    let part = recording::records(file);
-    reading_agrees(file)
-        && r.refusal == 0
-        && r.start == 0
-        && r.tasks == tasks
-        && r.semaphores == semaphores
-        && r.cells == cells
-        && part.len() == records.len()
-        && same_bytes(part, records, records.len())
-}
-
-// What was written, read back where it is a file.
-fn same_file(written: Written, o: second::Sent, out: &[u8], other: &[u8]) -> bool {
-    let n = o.length;
-    same_written(written, o) && same_bytes(out, other, n) && all_byte_marks(out, n, BYTE_MARK)
-}
-
-fn lent_writing(records: &[u8], tasks: u16, semaphores: u16, cells: u16, out: &mut [u8]) -> bool {
-    let mut other = [0u8; 8192];
-    let o = second::write(records, tasks, semaphores, cells, out.len(), &mut other);
-    let written = recording::write(records, tasks, semaphores, cells, out);
-    same_file(written, o, out, &other)
-}
-
-fn part_writing(
-    records: &[u8],
-    tasks: u16,
-    semaphores: u16,
-    cells: u16,
-    room: usize,
-    out: &mut [u8],
-) -> bool {
-    if out.len() < room {
-        return false;
-    }
-    lent_writing(records, tasks, semaphores, cells, &mut out[0..room])
-}
-
-// Where a whole file was written, it is read back.
-fn reads_back(records: &[u8], tasks: u16, semaphores: u16, cells: u16, out: &[u8]) -> bool {
-    let n = recording_length(records, tasks, semaphores, cells, out.len());
-    if n == 0 || out.len() < n {
-        return true;
-    }
-    read_back(&out[0..n], records, tasks, semaphores, cells)
-}
-
-fn recording_length(records: &[u8], tasks: u16, semaphores: u16, cells: u16, room: usize) -> usize {
-    let mut other = [0u8; 8192];
-    let o = second::write(records, tasks, semaphores, cells, room, &mut other);
-    o.length
-}
-
-// Writing, with this size of lent output.
-fn writing_agrees(records: &[u8], tasks: u16, semaphores: u16, cells: u16, room: usize) -> bool {
-    let mut out = [0u8; 8192];
-    fill_bytes(&mut out, BYTE_MARK);
-    if !part_writing(records, tasks, semaphores, cells, room, &mut out) {
-        return false;
-    }
-    if recording_length(records, tasks, semaphores, cells, room) == 0 {
-        return true;
-    }
-    reads_back(records, tasks, semaphores, cells, &out)
-}
-
-// Writing the bytes from a start to the trailer with these counts, to more output than is needed.
-pub(crate) fn counts_agree(
-    file: &[u8],
-    start: usize,
-    tasks: u16,
-    semaphores: u16,
-    cells: u16,
-) -> bool {
-    let end = file.len();
-    if end < 16 || end - 16 < start {
-        return true;
-    }
-    writing_agrees(&file[start..end - 16], tasks, semaphores, cells, 8192)
-}
-
-// An accepted file with start 0, written again, has its bytes.
-pub(crate) fn rewriting_agrees(file: &[u8]) -> bool {
-    let r = second::read(file);
-    if r.refusal != 0 || r.start != 0 {
-        return true;
-    }
-    let mut out = [0u8; 8192];
     let records = recording::records(file);
-    recording::write(records, r.tasks, r.semaphores, r.cells, &mut out);
-    same_bytes(&out, file, file.len())
+    same_parts(file, r) && same_walk(records, r.events) && same_cut_walk(records, r.events)
 }
 
 // With nothing lent, a question is refused with this number.
@@ -409,19 +321,6 @@ pub(crate) fn analysis_refused(file: &[u8], number: u16) -> bool {
     let mut list = [0u16; 1];
     let o = second::analyse(file, 1, 0, 0, &mut safe, &mut recorded, &mut list);
     o.refusal == number && analysis_agrees(file, 1, 0, 0)
-}
-
-// With nothing lent, writing is refused with this number.
-pub(crate) fn writing_refused(
-    records: &[u8],
-    tasks: u16,
-    semaphores: u16,
-    cells: u16,
-    number: u16,
-) -> bool {
-    let mut out = [0u8; 1];
-    let o = second::write(records, tasks, semaphores, cells, 0, &mut out);
-    o.refusal == number && writing_agrees(records, tasks, semaphores, cells, 0)
 }
 
 // How many pairs the second analyser finds.
@@ -453,7 +352,8 @@ pub(crate) fn work_needed(file: &[u8]) -> usize {
     twice(product(r.events, r.tasks))
 }
 
-fn list_needed(file: &[u8], budget: u32) -> usize {
+// As many list numbers as a file needs.
+pub(crate) fn list_needed(file: &[u8], budget: u32) -> usize {
     let pairs = pairs_of(file, budget);
     if pairs < 8192 {
         pairs as usize * 3
@@ -466,15 +366,14 @@ pub(crate) fn one_less(x: usize) -> usize {
     if 0 < x { x - 1 } else { 0 }
 }
 
-fn some_more(x: usize) -> usize {
+pub(crate) fn some_more(x: usize) -> usize {
     if x < 65536 { x + 9 } else { x }
 }
 
-// Analysing with the sizes that are needed, and with other ones: more, one less for the work, one
-// less for the list, one more for both, and none.
-pub(crate) fn sized_analysis_agrees(file: &[u8], budget: u32, which: u32) -> bool {
+// Analysing with the sizes that are needed, the list's lent here, and with other ones: more, one less
+// for the work, one less for the list, one more for both, and none.
+pub(crate) fn sized_analysis_agrees(file: &[u8], budget: u32, slots: usize, which: u32) -> bool {
     let room = work_needed(file);
-    let slots = list_needed(file, budget);
     match which {
         0 => analysis_agrees(file, budget, room, slots),
         1 => analysis_agrees(file, budget, some_more(room), some_more(slots)),
@@ -485,45 +384,32 @@ pub(crate) fn sized_analysis_agrees(file: &[u8], budget: u32, which: u32) -> boo
     }
 }
 
-fn one_more(x: usize) -> usize {
+pub(crate) fn one_more(x: usize) -> usize {
     if x < 65536 { x + 1 } else { x }
 }
 
-// Record bytes that are not a multiple of four.
-fn cut_writing(records: &[u8], r: second::Reading, room: usize) -> bool {
-    let n = records.len();
-    if n == 0 {
-        return true;
+// The numbers of a list are the digits of a text.
+fn same_digits(list: &[u16], text: &[u8]) -> bool {
+    for i in 0..text.len() {
+        if number(list, i) != digit(text, i) as u16 {
+            return false;
+        }
     }
-    writing_agrees(&records[0..n - 1], r.tasks, r.semaphores, r.cells, room)
+    true
 }
 
-// Writing the records of a file with the output that is needed, and with other ones.
-fn sized_writing(records: &[u8], r: second::Reading, which: u32) -> bool {
-    let t = r.tasks;
-    let s = r.semaphores;
-    let c = r.cells;
-    let room = if records.len() < 4200 {
-        records.len() + 16
-    } else {
-        0
-    };
-    match which {
-        0 => writing_agrees(records, t, s, c, room),
-        1 => writing_agrees(records, t, s, c, some_more(room)),
-        2 => writing_agrees(records, t, s, c, one_less(room)),
-        3 => writing_agrees(records, t, s, c, 0),
-        4 => writing_agrees(records, t, s, c, one_more(room)),
-        _ => cut_writing(records, r, room),
+// The library settles in so many passes, and lists these entries, a digit for each number.
+pub(crate) fn lists(file: &[u8], made: u32, entries: &[u8]) -> bool {
+    let mut work = [0u16; 256];
+    let mut list = [0u16; 64];
+    match analysis::analyse(file, 4294967295, &mut work, &mut list) {
+        Analysis::Done {
+            passes,
+            settled,
+            pairs,
+        } => {
+            passes == made && settled && pairs == entries.len() / 3 && same_digits(&list, entries)
+        }
+        Analysis::Refused(_) => false,
     }
-}
-
-pub(crate) fn sized_writing_agrees(file: &[u8], which: u32) -> bool {
-    let r = second::read(file);
-    let start = r.start;
-    let end = file.len();
-    if end < 16 || end - 16 < start {
-        return true;
-    }
-    sized_writing(&file[start..end - 16], r, which)
 }

@@ -1,23 +1,30 @@
 // Recordings from fixed seeds: small and large, valid and damaged.
+use crate::bytes::byte;
 use crate::bytes::put_byte;
+use crate::bytes::up_by;
 use crate::compare;
 use crate::make;
 use crate::make::Shape;
 use crate::tries::count;
 use crate::tries::say;
+use crate::tries::try_printing;
 use crate::tries::try_questions;
 use crate::tries::try_reading;
 use crate::tries::try_sizes;
 use crate::tries::try_writing;
+use crate::writing;
 
 // How large the recordings of a group are: at least so many events and fewer than so many more, and
-// below so many more than 1 task, 0 semaphores and 0 cells.
+// below so many more than 1 task, 0 semaphores and 0 cells; their edition; and whether all sizes of lent
+// memory are tried or one of them.
 pub(crate) struct Sizes {
     pub(crate) least: u16,
     pub(crate) more: u16,
     pub(crate) tasks: u16,
     pub(crate) semaphores: u16,
     pub(crate) cells: u16,
+    pub(crate) edition: u16,
+    pub(crate) all: bool,
 }
 
 fn draw_shape(seed: &mut u32, m: Sizes) -> Shape {
@@ -32,6 +39,7 @@ fn draw_shape(seed: &mut u32, m: Sizes) -> Shape {
         tasks: t,
         semaphores: s,
         cells: c,
+        edition: m.edition,
     }
 }
 
@@ -72,18 +80,24 @@ fn try_made(start: u32, seed: &mut u32, s: Shape, damaged: bool, all: bool) -> u
         return start;
     }
     let budget = draw_budget(seed, s.events);
-    let which = make::draw(seed, 6);
+    let which = make::draw(seed, 30);
     let file = &bytes[0..length as usize];
     let total = try_reading(start, file);
     if all {
-        return try_writing(try_sizes(total, file, budget), file);
+        return try_printing(try_writing(try_sizes(total, file, budget), file), file);
     }
+    try_one(total, file, budget, which)
+}
+
+// One size for analysing and one for writing.
+fn try_one(total: u32, file: &[u8], budget: u32, which: u32) -> u32 {
+    let slots = compare::list_needed(file, budget);
     let one = count(
         total,
-        compare::sized_analysis_agrees(file, budget, which),
+        compare::sized_analysis_agrees(file, budget, slots, which % 6),
         file,
     );
-    count(one, compare::sized_writing_agrees(file, which), file)
+    count(one, writing::sized_writing_agrees(file, which % 10), file)
 }
 
 fn try_asked(start: u32, seed: &mut u32, s: Shape) -> u32 {
@@ -97,16 +111,78 @@ fn try_asked(start: u32, seed: &mut u32, s: Shape) -> u32 {
     try_questions(start, file, budget, compare::work_needed(file))
 }
 
-// So many recordings from a seed, with all sizes of lent memory or one of them.
-pub(crate) fn try_drawn(name: &[u8], first: u32, times: u32, m: Sizes, damaged: bool, all: bool) {
+// So many recordings from a seed.
+fn try_group(name: &[u8], first: u32, times: u32, m: Sizes, damaged: bool) {
     let mut seed = first;
     let mut total = 0;
     for i in 0..times {
         let s = draw_shape(&mut seed, m);
-        total = try_made(total, &mut seed, s, damaged, all);
+        total = try_made(total, &mut seed, s, damaged, m.all);
     }
     say(name, total);
 }
+
+pub(crate) fn try_drawn(name: &[u8], first: u32, times: u32, m: Sizes) {
+    try_group(name, first, times, m, false);
+}
+
+pub(crate) fn try_damaged(name: &[u8], first: u32, times: u32, m: Sizes) {
+    try_group(name, first, times, m, true);
+}
+
+// ---- every byte changed
+
+// Another value for a byte: one more, one less, the least or the largest.
+fn changed(value: u8, how: u32) -> u8 {
+    match how {
+        0 => ((value as u32 + 1) % 256) as u8,
+        1 => ((value as u32 + 255) % 256) as u8,
+        2 => 0,
+        _ => 255,
+    }
+}
+
+// The file with byte i changed in each way.
+fn try_byte(start: u32, bytes: &mut [u8], i: u32) -> u32 {
+    let value = byte(bytes, i as usize);
+    let mut total = start;
+    for how in 0..4u32 {
+        put_byte(bytes, i as usize, changed(value, how));
+        total = try_one(try_reading(total, bytes), bytes, 3, i);
+    }
+    put_byte(bytes, i as usize, value);
+    total
+}
+
+fn try_bytes(start: u32, bytes: &mut [u8], n: u32) -> u32 {
+    let mut total = start;
+    for i in 0..n {
+        total = try_byte(total, bytes, i);
+    }
+    total
+}
+
+fn try_each_byte(start: u32, seed: &mut u32, s: Shape) -> u32 {
+    let mut bytes = [0u8; 4200];
+    let length = make::make(seed, s, &mut bytes);
+    if 4200 < length {
+        return start;
+    }
+    try_bytes(start, &mut bytes[0..length as usize], length)
+}
+
+// So many recordings from a seed, with every byte changed.
+pub(crate) fn try_changed(name: &[u8], first: u32, times: u32, m: Sizes) {
+    let mut seed = first;
+    let mut total = 0;
+    for i in 0..times {
+        let s = draw_shape(&mut seed, m);
+        total = try_each_byte(total, &mut seed, s);
+    }
+    say(name, total);
+}
+
+// ---- questions
 
 // The question about all pairs of events, for so many recordings.
 pub(crate) fn try_all_asked(name: &[u8], first: u32, times: u32, m: Sizes) {
@@ -140,36 +216,36 @@ fn put_next(file: &mut [u8], n: u16, task: u8, kind: u8) -> u16 {
     if n < 1000 { n + 1 } else { n }
 }
 
-// The chain settles in m + 2 passes.
-fn try_chain(start: u32, m: u16) -> u32 {
-    let s = Shape {
-        preamble: 0,
-        events: 0,
-        tasks: 2,
-        semaphores: 1,
-        cells: 0,
-    };
+// The chain settles in m + 2 passes, with no start bytes or a start count of 0.
+fn try_chain(start: u32, edition: u16, starts: u32, m: u16) -> u32 {
     let mut bytes = [0u8; 4200];
     let n = put_chain(&mut bytes, m);
-    make::put_trailer(&mut bytes, make::place(0, n), 0, n as u32, s, 1);
-    let length = n as usize * 4 + 16;
+    let end = up_by(make::place(0, n), starts);
+    make::put_trailer(
+        &mut bytes,
+        end,
+        0,
+        n as u32,
+        make::empty_shape(2, 1, 0, edition),
+    );
+    let length = up_by(end, 16);
     if 4200 < length {
         return start;
     }
-    let file = &bytes[0..length];
+    let file = &bytes[0..length as usize];
     let passes = compare::passes_of(file, 4294967295);
     let total = count(start, passes == m as u32 + 2, file);
     count(
         total,
-        compare::sized_analysis_agrees(file, 4294967295, 0),
+        compare::sized_analysis_agrees(file, 4294967295, 0, 0),
         file,
     )
 }
 
-pub(crate) fn try_chains(name: &[u8], times: u16) {
+pub(crate) fn try_chains(name: &[u8], edition: u16, starts: u32, times: u16) {
     let mut total = 0;
     for m in 0..times {
-        total = try_chain(total, m);
+        total = try_chain(total, edition, starts, m);
     }
     say(name, total);
 }

@@ -1,82 +1,113 @@
 // The trial: worked recordings, edge files and generated recordings, with the library and the second
 // analyser compared in everything. Each group prints how many comparisons it made, and each file at
-// which the two differ.
+// which the two differ. Groups are of edition 1 unless their name says otherwise.
 mod bytes;
 mod compare;
 mod edges;
 mod generated;
+mod lines;
 mod make;
+mod refusals;
 mod tries;
 mod worked;
+mod writing;
 
 use generated::Sizes;
 use generated::try_all_asked;
 use generated::try_chains;
+use generated::try_changed;
+use generated::try_damaged;
 use generated::try_drawn;
 
 // Up to 14 events of a few tasks.
-fn small() -> Sizes {
+fn small(edition: u16) -> Sizes {
     Sizes {
         least: 0,
         more: 15,
         tasks: 4,
         semaphores: 3,
         cells: 3,
+        edition,
+        all: true,
     }
 }
 
 // Up to 120 events of up to 16 tasks.
-fn middling() -> Sizes {
+fn middling(edition: u16) -> Sizes {
     Sizes {
         least: 15,
         more: 106,
         tasks: 16,
         semaphores: 6,
         cells: 9,
+        edition,
+        all: false,
     }
 }
 
 // Up to 1,024 events of up to 16 tasks.
-fn large() -> Sizes {
+fn large(edition: u16) -> Sizes {
     Sizes {
         least: 1000,
         more: 25,
         tasks: 16,
         semaphores: 9,
         cells: 60,
+        edition,
+        all: false,
     }
 }
 
-fn main() {
+// Small files by hand.
+fn try_by_hand() {
     worked::try_worked();
     worked::try_names();
     worked::try_lives();
     worked::try_waits();
     worked::try_pairs();
-    worked::try_orders();
+    worked::try_start_rows();
+    worked::try_start_waits();
+    worked::try_prints();
+    refusals::try_orders();
+    refusals::try_sent_orders();
+    refusals::try_lents();
+    refusals::try_outputs();
     edges::try_ranges();
     edges::try_extents();
     edges::try_trailers();
-    try_drawn(b"small recordings", 2021, 12000, small(), false, true);
-    try_drawn(
-        b"small damaged recordings",
-        2022,
-        12000,
-        small(),
-        true,
-        true,
-    );
-    try_all_asked(b"questions", 2023, 2000, small());
-    try_drawn(b"middling recordings", 2024, 4000, middling(), false, false);
-    try_drawn(
-        b"middling damaged recordings",
-        2025,
-        2000,
-        middling(),
-        true,
-        false,
-    );
-    try_drawn(b"large recordings", 2026, 80, large(), false, false);
-    try_drawn(b"large damaged recordings", 2027, 40, large(), true, false);
-    try_chains(b"chains", 100);
+    edges::try_start_ranges();
+    edges::try_start_extents();
+    edges::try_start_trailers();
+}
+
+// Recordings of edition 1.
+fn try_edition_one() {
+    try_drawn(b"small recordings", 2021, 12000, small(1));
+    try_damaged(b"small damaged recordings", 2022, 12000, small(1));
+    try_changed(b"every byte changed", 2028, 20, small(1));
+    try_all_asked(b"questions", 2023, 2000, small(1));
+    try_drawn(b"middling recordings", 2024, 4000, middling(1));
+    try_damaged(b"middling damaged recordings", 2025, 2000, middling(1));
+    try_drawn(b"large recordings", 2026, 80, large(1));
+    try_damaged(b"large damaged recordings", 2027, 40, large(1));
+    try_chains(b"chains", 1, 0, 100);
+}
+
+// Recordings of edition 2, with start counts.
+fn try_edition_two() {
+    try_drawn(b"small recordings, edition 2", 2031, 8000, small(2));
+    try_damaged(b"small damaged, edition 2", 2032, 8000, small(2));
+    try_changed(b"every byte changed, edition 2", 2038, 60, small(2));
+    try_all_asked(b"questions, edition 2", 2033, 1500, small(2));
+    try_drawn(b"middling recordings, edition 2", 2034, 4000, middling(2));
+    try_damaged(b"middling damaged, edition 2", 2035, 2000, middling(2));
+    try_drawn(b"large recordings, edition 2", 2036, 60, large(2));
+    try_damaged(b"large damaged, edition 2", 2037, 40, large(2));
+    try_chains(b"chains, edition 2", 2, 1, 30);
+}
+
+fn main() {
+    try_by_hand();
+    try_edition_one();
+    try_edition_two();
 }

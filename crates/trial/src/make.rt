@@ -9,13 +9,14 @@ use crate::bytes::put_word;
 use crate::bytes::up_by;
 use crate::bytes::wide;
 
-// How large a recording may be: its preamble and events, and its counts.
+// How large a recording may be: its preamble and events, and its counts; and its edition.
 pub(crate) struct Shape {
     pub(crate) preamble: u16,
     pub(crate) events: u16,
     pub(crate) tasks: u16,
     pub(crate) semaphores: u16,
     pub(crate) cells: u16,
+    pub(crate) edition: u16,
 }
 
 struct Draft {
@@ -24,8 +25,8 @@ struct Draft {
     object: u16,
 }
 
-// What has happened, by semaphore or by task: the signals that no wait took; forked; joined; has a
-// record; runs only once forked.
+// What has happened, by semaphore or by task: what a wait can take, of the start count and of signals;
+// forked; joined; has a record; runs only once forked; and the start counts.
 const STOCK: u16 = 0;
 
 const FORKED: u16 = 64;
@@ -35,6 +36,8 @@ const JOINED: u16 = 128;
 const SEEN: u16 = 192;
 
 const LATE: u16 = 256;
+
+const STARTS: u16 = 320;
 
 // A number below n; 0 where n is 0.
 pub(crate) fn draw(seed: &mut u32, n: u32) -> u32 {
@@ -182,20 +185,65 @@ pub(crate) fn mark_preamble(file: &mut [u8], start: u32) {
     }
 }
 
+// The counts and edition of a recording with no preamble and no events yet.
+pub(crate) fn empty_shape(tasks: u16, semaphores: u16, cells: u16, edition: u16) -> Shape {
+    Shape {
+        preamble: 0,
+        events: 0,
+        tasks,
+        semaphores,
+        cells,
+        edition,
+    }
+}
+
 // The trailer at a place of the file.
-pub(crate) fn put_trailer(file: &mut [u8], i: u32, start: u32, n: u32, s: Shape, edition: u16) {
+pub(crate) fn put_trailer(file: &mut [u8], i: u32, start: u32, n: u32, s: Shape) {
     put_double(file, i, start);
     put_double(file, up_by(i, 4), n);
     put_word(file, up_by(i, 8), s.tasks);
     put_word(file, up_by(i, 10), s.semaphores);
     put_word(file, up_by(i, 12), s.cells);
-    put_word(file, up_by(i, 14), edition);
+    put_word(file, up_by(i, 14), s.edition);
+}
+
+// How many start bytes a recording has.
+fn starts_in(s: Shape) -> u16 {
+    if s.edition == 2 { s.semaphores } else { 0 }
+}
+
+// 0, 1, 4, 255, or a small number.
+fn draw_start(seed: &mut u32) -> u16 {
+    match draw(seed, 7) {
+        0 => 0,
+        1 => 1,
+        2 => 4,
+        3 => 255,
+        _ => draw_word(seed, 7),
+    }
+}
+
+fn set_starts(seed: &mut u32, life: &mut [u16], n: u16) {
+    for i in 0..n {
+        let start = draw_start(seed);
+        put(life, STARTS, i, start);
+        put(life, STOCK, i, start);
+    }
+}
+
+fn put_starts(file: &mut [u8], at: u32, life: &[u16], n: u16) {
+    for i in 0..n {
+        let start = number(life, STARTS as usize + i as usize);
+        put_byte(file, up_by(at, wide(i)) as usize, (start % 256) as u8);
+    }
 }
 
 // A recording that reading accepts, of at most the shape's events; its length.
 pub(crate) fn make(seed: &mut u32, s: Shape, file: &mut [u8]) -> u32 {
-    let mut life = [0u16; 320];
+    let mut life = [0u16; 384];
+    let starts = starts_in(s);
     set_late(seed, &mut life, s.tasks);
+    set_starts(seed, &mut life, starts);
     let tries = if s.events < 20000 {
         s.events * 3
     } else {
@@ -203,28 +251,41 @@ pub(crate) fn make(seed: &mut u32, s: Shape, file: &mut [u8]) -> u32 {
     };
     mark_preamble(file, wide(s.preamble));
     let n = grow_all(seed, s, &mut life, file, tries);
-    let end = place(s.preamble, n);
-    put_trailer(file, end, wide(s.preamble), wide(n), s, 1);
+    let at = place(s.preamble, n);
+    put_starts(file, at, &life, starts);
+    let end = up_by(at, wide(starts));
+    put_trailer(file, end, wide(s.preamble), wide(n), s);
     up_by(end, 16)
 }
 
-// Another byte somewhere in the file or its trailer, another record, or another length; the length.
+// Another byte so many from the end of the file, where there is one.
+fn damage_byte(file: &mut [u8], length: u32, back: u32, value: u8) {
+    if back < length {
+        put_byte(file, (length - 1 - back) as usize, value);
+    }
+}
+
+// Another byte somewhere in the file, in its trailer or just before that, another record, or another
+// length; the length.
 pub(crate) fn damage(seed: &mut u32, s: Shape, file: &mut [u8], length: u32) -> u32 {
-    let what = draw(seed, 4);
+    let what = draw(seed, 5);
     let value = (draw(seed, 256) % 256) as u8;
     if what == 0 {
-        let at = draw(seed, length);
-        put_byte(file, at as usize, value);
+        let back = draw(seed, length);
+        damage_byte(file, length, back, value);
         return length;
     }
     if what == 1 {
-        let at = up_by(length, draw(seed, 16));
-        if 16 <= at {
-            put_byte(file, (at - 16) as usize, value);
-        }
+        let back = draw(seed, 16);
+        damage_byte(file, length, back, value);
         return length;
     }
     if what == 2 {
+        let back = up_by(16, draw(seed, 8));
+        damage_byte(file, length, back, value % 6);
+        return length;
+    }
+    if what == 3 {
         let d = Draft {
             task: draw_word(seed, s.tasks),
             kind: draw_word(seed, 9),

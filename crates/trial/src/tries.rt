@@ -4,6 +4,8 @@ use crate::bytes::byte;
 use crate::bytes::up;
 use crate::bytes::up_by;
 use crate::compare;
+use crate::lines;
+use crate::writing;
 use libc::STDOUT_FILENO;
 
 pub(crate) fn say(name: &[u8], count: u32) {
@@ -36,23 +38,29 @@ pub(crate) fn refused_as(file: &[u8], number: u16, record: u16) -> bool {
 
 // Analysing with each size of lent memory.
 pub(crate) fn try_sizes(start: u32, file: &[u8], budget: u32) -> u32 {
+    let slots = compare::list_needed(file, budget);
     let mut total = start;
     for which in 0..6u32 {
         total = count(
             total,
-            compare::sized_analysis_agrees(file, budget, which),
+            compare::sized_analysis_agrees(file, budget, slots, which),
             file,
         );
     }
     total
 }
 
+// Writing with each size of output, and with what does not fit together.
 pub(crate) fn try_writing(start: u32, file: &[u8]) -> u32 {
     let mut total = start;
-    for which in 0..6u32 {
-        total = count(total, compare::sized_writing_agrees(file, which), file);
+    for which in 0..10u32 {
+        total = count(total, writing::sized_writing_agrees(file, which), file);
     }
     total
+}
+
+pub(crate) fn try_printing(total: u32, file: &[u8]) -> u32 {
+    count(total, lines::printing_agrees(file), file)
 }
 
 fn try_questions_of(start: u32, file: &[u8], a: u32, most: u32, budget: u32, room: usize) -> u32 {
@@ -80,5 +88,5 @@ pub(crate) fn try_questions(start: u32, file: &[u8], budget: u32, room: usize) -
 // Reading a file, and writing it again.
 pub(crate) fn try_reading(total: u32, file: &[u8]) -> u32 {
     let read = count(total, compare::reading_agrees(file), file);
-    count(read, compare::rewriting_agrees(file), file)
+    count(read, writing::rewriting_agrees(file), file)
 }

@@ -1,12 +1,17 @@
-// Small recordings in the notation of document 01: each event as its task, a letter and its object.
+// Small recordings in the notation of document 01: each event as its task, a letter and its object;
+// start counts are bytes.
 use crate::bytes::byte;
 use crate::bytes::put_byte;
+use crate::bytes::put_bytes;
+use crate::bytes::up_by;
 use crate::compare;
+use crate::lines;
 use crate::make;
 use crate::make::Shape;
 use crate::tries::count;
 use crate::tries::refused_as;
 use crate::tries::say;
+use crate::tries::try_printing;
 use crate::tries::try_questions;
 use crate::tries::try_reading;
 use crate::tries::try_sizes;
@@ -26,7 +31,7 @@ fn kind_of(letter: u8) -> u8 {
     }
 }
 
-fn digit(text: &[u8], i: usize) -> u8 {
+pub(crate) fn digit(text: &[u8], i: usize) -> u8 {
     let c = byte(text, i);
     if 48 <= c { c - 48 } else { 0 }
 }
@@ -65,22 +70,42 @@ fn try_whole(start: u32, file: &[u8]) -> u32 {
     let passes = try_budgets(start, file, room);
     let most = try_sizes(passes, file, 4294967295);
     let asked = try_questions(most, file, 4294967295, compare::one_less(room));
-    try_reading(try_writing(asked, file), file)
+    let written = try_writing(asked, file);
+    try_printing(try_reading(written, file), file)
 }
 
-// Puts a recording with these counts; its length.
-fn put_text(file: &mut [u8], tasks: u16, semaphores: u16, cells: u16, text: &[u8]) -> usize {
+// Puts the events of a text, and answers where they end.
+pub(crate) fn put_text(file: &mut [u8], text: &[u8]) -> u32 {
     let n = events_in(text);
-    let s = Shape {
-        preamble: 0,
-        events: n,
-        tasks,
-        semaphores,
-        cells,
-    };
     put_events(file, text, n);
-    make::put_trailer(file, make::place(0, n), 0, n as u32, s, 1);
-    n as usize * 4 + 16
+    make::place(0, n)
+}
+
+// Puts a recording of this shape with these start bytes; its length.
+pub(crate) fn put_recording(file: &mut [u8], s: Shape, starts: &[u8], text: &[u8]) -> u32 {
+    let at = put_text(file, text);
+    let end = put_bytes(file, at, starts);
+    make::put_trailer(file, end, 0, at / 4, s);
+    up_by(end, 16)
+}
+
+// A recording of this shape, and the number and record of its refusal.
+fn try_recording(
+    start: u32,
+    s: Shape,
+    starts: &[u8],
+    number: u16,
+    record: u16,
+    text: &[u8],
+) -> u32 {
+    let mut bytes = [0u8; 400];
+    let length = put_recording(&mut bytes, s, starts, text);
+    if 400 < length {
+        return start;
+    }
+    let file = &bytes[0..length as usize];
+    let total = count(start, refused_as(file, number, record), file);
+    try_whole(total, file)
 }
 
 // A recording with these counts, and the number and record of its refusal.
@@ -93,14 +118,59 @@ fn try_text(
     record: u16,
     text: &[u8],
 ) -> u32 {
+    let s = make::empty_shape(tasks, semaphores, cells, 1);
+    try_recording(start, s, b"", number, record, text)
+}
+
+// The shape of a recording in edition 2 with these start bytes.
+fn shape_with(tasks: u16, cells: u16, starts: &[u8]) -> Shape {
+    make::empty_shape(tasks, (starts.len() % 65) as u16, cells, 2)
+}
+
+// A recording in edition 2 with these start counts, and the number and record of its refusal.
+fn try_started(
+    start: u32,
+    tasks: u16,
+    cells: u16,
+    starts: &[u8],
+    number: u16,
+    record: u16,
+    text: &[u8],
+) -> u32 {
+    let s = shape_with(tasks, cells, starts);
+    try_recording(start, s, starts, number, record, text)
+}
+
+// The same, which settles in so many passes and lists these entries, a digit for each number.
+fn try_listed(
+    start: u32,
+    tasks: u16,
+    cells: u16,
+    starts: &[u8],
+    text: &[u8],
+    passes: u32,
+    entries: &[u8],
+) -> u32 {
     let mut bytes = [0u8; 400];
-    let length = put_text(&mut bytes, tasks, semaphores, cells, text);
+    let s = shape_with(tasks, cells, starts);
+    let length = put_recording(&mut bytes, s, starts, text);
     if 400 < length {
         return start;
     }
-    let file = &bytes[0..length];
-    let total = count(start, refused_as(file, number, record), file);
+    let file = &bytes[0..length as usize];
+    let total = count(start, compare::lists(file, passes, entries), file);
     try_whole(total, file)
+}
+
+// A recording of this shape, and what is printed of it.
+fn try_printed(start: u32, s: Shape, starts: &[u8], text: &[u8], printed: &[u8]) -> u32 {
+    let mut bytes = [0u8; 400];
+    let length = put_recording(&mut bytes, s, starts, text);
+    if 400 < length {
+        return start;
+    }
+    let file = &bytes[0..length as usize];
+    count(start, lines::prints(file, printed), file)
 }
 
 // A to J of document 01.
@@ -243,48 +313,98 @@ pub(crate) fn try_pairs() {
     say(b"pairs", total);
 }
 
-// With nothing lent: the refusals of a question about a and b, of analysing and of writing.
-fn try_bare(
-    start: u32,
-    text: &[u8],
-    a: usize,
-    b: usize,
-    asked: u16,
-    analysed: u16,
-    written: u16,
-) -> u32 {
-    let mut bytes = [0u8; 400];
-    let length = put_text(&mut bytes, 2, 1, 1, text);
-    if 400 < length || length < 16 {
-        return start;
-    }
-    let file = &bytes[0..length];
-    let records = &file[0..length - 16];
-    let question = count(start, compare::question_refused(file, a, b, asked), file);
-    let analysis = count(question, compare::analysis_refused(file, analysed), file);
-    count(
-        analysis,
-        compare::writing_refused(records, 2, 1, 1, written),
-        file,
+// The rows of request 1, and rows of document 01 with a start count of 0.
+pub(crate) fn try_start_rows() {
+    let mut total = 0;
+    total = try_listed(total, 2, 1, b"\x00", b"0W0 0S0 1P0 1R0", 2, b"");
+    total = try_listed(total, 2, 1, b"\x01", b"0W0 0S0 1P0 1R0", 1, b"031");
+    total = try_listed(total, 2, 1, b"\x01", b"0W0 0S0 1P0 1P0 1R0", 2, b"");
+    total = try_listed(total, 3, 1, b"\x01", b"0W0 0S0 1S0 2P0 2P0 2R0", 1, b"050");
+    total = try_listed(total, 1, 0, b"\x01", b"0P0", 1, b"");
+    total = try_started(total, 1, 0, b"\x01", 0, 0, b"0P0");
+    total = try_started(total, 1, 0, b"\x01", 8, 1, b"0P0 0P0");
+    // B, D, F
+    total = try_listed(total, 3, 1, b"\x00", b"0W0 0S0 1S0 2P0 2R0", 1, b"040");
+    total = try_listed(total, 3, 1, b"\x00", b"0W0 0S0 1S0 2P0 2P0 2R0", 2, b"");
+    total = try_listed(total, 2, 1, b"\x00", b"1W0 1S0 0P0 0S0 0R0", 2, b"");
+    say(b"start rows", total);
+}
+
+// The wait rule with a start count, and matches behind the first waits.
+pub(crate) fn try_start_waits() {
+    let mut total = 0;
+    // no start count
+    total = try_started(total, 1, 0, b"\x00", 8, 0, b"0P0");
+    // a pool of four
+    total = try_started(total, 1, 0, b"\x04", 0, 0, b"0P0 0P0 0P0 0P0");
+    total = try_started(total, 1, 0, b"\x04", 8, 4, b"0P0 0P0 0P0 0P0 0P0");
+    total = try_started(total, 2, 0, b"\x04", 0, 0, b"0P0 0P0 1P0 0P0 1S0 0P0");
+    total = try_started(total, 1, 0, b"\xFF", 0, 0, b"0P0 0P0 0S0 0P0");
+    // one more by a signal, before or between
+    total = try_started(total, 1, 0, b"\x01", 0, 0, b"0S0 0P0 0P0");
+    total = try_started(total, 1, 0, b"\x01", 8, 3, b"0P0 0S0 0P0 0P0");
+    // another semaphore's start count
+    total = try_started(total, 1, 0, b"\x00\x04", 8, 1, b"0P1 0P0");
+    total = try_started(total, 1, 0, b"\x04\x00", 8, 1, b"0P0 0P1");
+    total = try_started(total, 1, 0, b"\x00\x00\x01", 0, 0, b"0P2");
+    // kind, name and life before the wait rule
+    total = try_started(total, 1, 1, b"\x01", 5, 1, b"0W0 0y0 0P0");
+    total = try_started(total, 2, 1, b"\x01", 6, 0, b"0P1");
+    total = try_started(total, 2, 0, b"\x00", 7, 2, b"0F1 0J1 1P0");
+    // the second wait takes the first signal, the third the second
+    total = try_started(total, 4, 1, b"\x01", 0, 0, b"0W0 0S0 1P0 2P0 2R0");
+    total = try_started(
+        total,
+        4,
+        2,
+        b"\x01",
+        0,
+        0,
+        b"0W0 0S0 1W1 1S0 2P0 2P0 2R0 3P0 3R1",
+    );
+    // waits of other tasks, ordered by a fork
+    total = try_started(total, 3, 1, b"\x02", 0, 0, b"0W0 0S0 1P0 1P0 1F2 2P0 2R0");
+    say(b"start counts", total);
+}
+
+// What is printed of a refused recording with one semaphore.
+fn try_line(start: u32, edition: u16, starts: &[u8], text: &[u8], line: &[u8]) -> u32 {
+    try_printed(
+        start,
+        make::empty_shape(1, 1, 0, edition),
+        starts,
+        text,
+        line,
     )
 }
 
-// A faulty record comes before 11, 11 before 9, and a faulty record before 12.
-pub(crate) fn try_orders() {
+// What is printed: the file of document 01, two recordings with a start count, and refusals.
+pub(crate) fn try_prints() {
     let mut total = 0;
-    total = try_bare(total, b"0W0 1W0", 0, 1, 9, 9, 12);
-    // one event
-    total = try_bare(total, b"0W0 1W0", 1, 1, 11, 9, 12);
-    // no event 2
-    total = try_bare(total, b"0W0 1W0", 2, 0, 11, 9, 12);
-    total = try_bare(total, b"0W0 1W0", 0, 2, 11, 9, 12);
-    // events 0 and 1 but for higher bits
-    total = try_bare(total, b"0W0 1W0", 65536, 1, 11, 9, 12);
-    total = try_bare(total, b"0W0 1W0", 0, 4294967297, 11, 9, 12);
-    // kind, name, life, empty
-    total = try_bare(total, b"0W0 0y0", 0, 0, 5, 5, 5);
-    total = try_bare(total, b"0W0 0W1", 0, 0, 6, 6, 6);
-    total = try_bare(total, b"0W0 0F0", 0, 0, 7, 7, 7);
-    total = try_bare(total, b"0W0 0P0", 0, 0, 8, 8, 8);
-    say(b"orders", total);
+    total = try_printed(
+        total,
+        make::empty_shape(2, 0, 1, 1),
+        b"",
+        b"0W0 0F1 1W0 0R0 0J1 0W0",
+        b"events 6 tasks 2 passes 2 settled yes pairs 1\ncell 0 2 3 sure\n",
+    );
+    total = try_printed(
+        total,
+        make::empty_shape(2, 1, 1, 2),
+        b"\x01",
+        b"0W0 0S0 1P0 1R0",
+        b"events 4 tasks 2 passes 1 settled yes pairs 1\ncell 0 0 3 sure\n",
+    );
+    total = try_printed(
+        total,
+        make::empty_shape(3, 1, 1, 2),
+        b"\x01",
+        b"0W0 0S0 1S0 2P0 2P0 2R0",
+        b"events 6 tasks 3 passes 1 settled yes pairs 1\ncell 0 0 5 open\n",
+    );
+    total = try_line(total, 1, b"", b"0P0", b"refused 8 0\n");
+    total = try_line(total, 3, b"", b"0P0", b"refused 2 0\n");
+    total = try_line(total, 2, b"", b"0P0", b"refused 3 0\n");
+    total = try_line(total, 2, b"\x01", b"0P0 0P0", b"refused 8 1\n");
+    say(b"printed", total);
 }

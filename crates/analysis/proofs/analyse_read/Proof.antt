@@ -7,33 +7,36 @@ use borrow.Author.Tests.{not-true, not-false}
 use Rattle.model.specs.declared.Refusal.{Refusal}
 use Rattle.model.specs.declared.Analysis.{Analysis}
 use Rattle.analysis.specs.Lent.{Ready, Roomy, Analysed}
-use Rattle.analysis.proofs.Accepted.{inside, ready}
+use Rattle.analysis.proofs.Accepted.{inside, levels-inside, ready}
 use Rattle.analysis.proofs.Cases.{roomy, short-work, ended}
 use Rattle.analysis.proofs.analyse_read.Statement.{statement}
 use Rattle.analysis.proofs.analyse_read.Tie as tie
 
--- the records are cut out of the file
-module _ (r : tie.After-records-of) where
+-- the records and the level bytes are cut out of the file
+module _ (l : tie.After-levels-of) where
+  abbrev r : tie.After-records-of
+  r = l .before .before
+
   abbrev s : tie.Start
   s = r .before .before .before .before
 
   all-ready : Ready (r .records-of .result .now) (s .args .trailer .counts)
-  all-ready = ready (s .args .file .now) (s .args .trailer) (s .pre) _ (r .records-of .ensures)
+  all-ready = ready (s .args .file .now) (s .args .trailer) (s .pre) _ (r .records-of .ensures) _ (l .levels-of .ensures)
 
 -- and the work numbers have room
 module _ (t : tie.Else1) where
-  abbrev r : tie.After-records-of
-  r = t .before .before .before .before
+  abbrev l : tie.After-levels-of
+  l = t .before .before .before
 
-  room : Roomy (r .records-of .result .now) (s r .args .trailer .counts) (s r .args .work .now)
+  room : Roomy (r l .records-of .result .now) (s l .args .trailer .counts) (s l .args .work .now)
   room =
-      roomy (s r .args .file .now) (s r .args .trailer) (s r .pre) _ (r .records-of .ensures) 0 (s r .args .work .now)
+      roomy (s l .args .file .now) (s l .args .trailer) (s l .pre) _ (r l .records-of .ensures) _ (l .levels-of .ensures) 0 (s l .args .work .now)
       (sym (t .before .work-fits .ensures) ∙ not-false _ (t .if1 .left))
 
 returns : tie.Need-returns
 returns c =
-    let r = c .before .before .before .before in
-    short-work (s r .args .file .now) (s r .args .trailer) (s r .pre) _ (r .records-of .ensures) _ _ _
+    let l = c .before .before .before in
+    short-work (s l .args .file .now) (s l .args .trailer) (s l .pre) _ (r l .records-of .ensures) _ (l .levels-of .ensures) _ _ _
     (sym (c .before .work-fits .ensures) ∙ not-true _ (c .if1 .taken))
 
 list-pairs-requires : tie.Need-list-pairs-requires
@@ -41,7 +44,7 @@ list-pairs-requires c κs =
     let k = c .before .before .before .before .before in
     let p = k .before .before .before in
     let t = p .before in
-    (all-ready (r t), omega (arith, room t, k .fill .kept .1 .1 .1 .1 .0), p .positions .ensures)
+    (all-ready (l t), omega (arith, room t, k .fill .kept .1 .1 .1 .1 .1 .0), p .positions .ensures)
 
 -- the answer, by whether the list had room
 module _ (c : tie.After-list-pairs) where
@@ -51,15 +54,15 @@ module _ (c : tie.After-list-pairs) where
   abbrev t : tie.Else1
   t = k .before .before .before .before
 
-  abbrev q : tie.After-records-of
-  q = r t
+  abbrev q : tie.After-levels-of
+  q = l t
 
   the-end : (y : Bool) → c .list-pairs .result .fits ≡ y
       → Analysed (s q .args .file .now) (s q .args .budget) (s q .args .work .now) (s q .args .list .now)
       (cond y (Analysis.Done (k .fill .result .passes) (k .fill .result .settled) (c .list-pairs .result .pairs)) (Analysis.Refused (Refusal.List (c .list-pairs .result .pairs))))
-      (k .fill .last .1 .1 .1 .1 .0) (c .list-pairs .last .1 .1 .1 .1 .0)
+      (k .fill .last .1 .1 .1 .1 .1 .0) (c .list-pairs .last .1 .1 .1 .1 .0)
   the-end =
-      ended (s q .args .file .now) (s q .args .trailer) (s q .pre) _ (q .records-of .ensures) (s q .args .budget) (s q .args .work .now)
+      ended (s q .args .file .now) (s q .args .trailer) (s q .pre) _ (r q .records-of .ensures) _ (q .levels-of .ensures) (s q .args .budget) (s q .args .work .now)
       (sym (t .before .work-fits .ensures) ∙ not-false _ (t .if1 .left)) _ (k .fill .ensures .1) _ _ _ _ _ (k .fill .ensures .0 .0) (k .fill .ensures .0 .1) (c .list-pairs .ensures)
 
 returns-2 : tie.Need-returns-2
@@ -73,11 +76,12 @@ analyse-read-spec =
     tie.close
     (tie.spec
     (λ c κs. inside _ _ (c .before .before .before .pre))
-    (λ c κs. all-ready (c .before .before))
+    (λ c κs. levels-inside _ _ (c .before .before .before .before .before .pre))
+    (λ c κs. all-ready (c .before))
     (λ c. search needs)
     returns
-    (λ c κs. let p = all-ready (r c) .records in omega (arith, p .whole, p .few))
-    (λ c κs. let p = c .before .before in (all-ready (r (p .before)), room (p .before), p .positions .ensures))
+    (λ c κs. let p = all-ready (l c) .records in omega (arith, p .whole, p .few))
+    (λ c κs. let p = c .before .before in (all-ready (l (p .before)), room (p .before), p .positions .ensures))
     list-pairs-requires
     (λ c. search needs)
     (λ c. search needs)

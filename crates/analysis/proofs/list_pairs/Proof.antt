@@ -1,5 +1,6 @@
 -- list_pairs meets its contract: the two parts that are lent are the vectors. Assumes nothing.
 use mathlib.Core.Path.{sym, _∙_}
+use mathlib.Core.List.{[]}
 use native.Mathlib.Omega.{arith}
 use borrow.Author.Needs.{needs}
 use Rattle.model.specs.File.{recordingBy}
@@ -28,7 +29,7 @@ returns c =
     let s = n .before .before .before .before in
     let l = c .before .before .list in
     as-vectors (s .args .records .now) (s .args .counts) (s .args .work .now) _ (n .numbers .ensures .0)
-    (λ (X R : Vectors). WrittenList (entries (recordingBy (s .args .records .now) (s .args .counts)) X R) (s .args .list .now) (l .last .1 .1 .1 .1 .1 .0) (l .result .fits) (l .result .pairs))
+    (λ (X R : Vectors). WrittenList (entries (recordingBy (s .args .records .now) (s .args .counts) []) X R) (s .args .list .now) (l .last .1 .1 .1 .1 .1 .0) (l .result .fits) (l .result .pairs))
     (l .ensures)
 
 pub list-pairs-spec : {M : Type 1} → statement M

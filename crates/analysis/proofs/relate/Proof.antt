@@ -1,5 +1,6 @@
 -- relate meets its contract: the two parts that are lent are the vectors. Assumes nothing.
 use mathlib.Core.Path.{_≡_, sym, _∙_}
+use mathlib.Core.List.{[]}
 use native.Mathlib.Omega.{arith}
 use borrow.Author.Needs.{needs}
 use Rattle.model.specs.File.{recordingBy}
@@ -21,7 +22,7 @@ returns c =
     let n = c .before .before .before .before in
     let s = n .before .before .before in
     as-vectors (s .args .records .now) (s .args .counts) (s .args .work .now) _ (n .numbers .ensures .0)
-    (λ (X R : Vectors). c .relation .result ≡ relationBy (recordingBy (s .args .records .now) (s .args .counts)) X R (s .args .a) (s .args .b))
+    (λ (X R : Vectors). c .relation .result ≡ relationBy (recordingBy (s .args .records .now) (s .args .counts) []) X R (s .args .a) (s .args .b))
     (c .relation .ensures)
 
 pub relate-spec : {M : Type 1} → statement M

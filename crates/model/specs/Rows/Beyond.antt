@@ -16,10 +16,10 @@ use Rattle.model.specs.Rows.Starred.{A}
 
 -- one of each
 abbrev pub ones : Counts
-ones = record { tasks = 1; semaphores = 1; cells = 1 }
+ones = record { tasks = 1; semaphores = 1; cells = 1; edition = 1 }
 
 pub record Beyond : Type 0 where
-  pub no-trailer : trailerOf [] ≡ record { start = 0; records = 0; counts = record { tasks = 0; semaphores = 0; cells = 0 } }
+  pub no-trailer : trailerOf [] ≡ record { start = 0; records = 0; counts = record { tasks = 0; semaphores = 0; cells = 0; edition = 0 } }
   pub no-record : eventAt [] 0 ≡ record { task = 0; kind = 0; object = 0 }
   pub no-event : event (recordingOf A) 4 ≡ record { task = 0; kind = 0; object = 0 }
   pub kind-0 : named ones (record { task = 0; kind = 0; object = 0 }) ≡ false

@@ -10,7 +10,7 @@ trailer start n t s c edition = start ∷ 0 ∷ 0 ∷ 0 ∷ n ∷ 0 ∷ 0 ∷ 0 
 
 pub record Faults : Type 0 where
   -- 1 to 4, then the first faulty record by 5 to 8
-  pub edition-before-extent : Refuses (trailer 4 0 0 0 0 2) 2 0
+  pub edition-before-extent : Refuses (trailer 4 0 0 0 0 3) 2 0
   pub extent-before-count : Refuses (trailer 4 0 0 0 0 1) 3 0
   pub count-before-records : Refuses (of 7 0 0 ++ trailer 0 1 0 0 0 1) 4 0
   pub first-record : Refuses (file 1 1 0 (P 0 ++ of 7 0 0)) 8 0

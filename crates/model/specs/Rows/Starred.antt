@@ -39,9 +39,9 @@ Fork t x = of 3 t x
 abbrev pub Join : ℕ → ℕ → List ℕ
 Join t x = of 4 t x
 
--- a file with t tasks, s semaphores and c cells
+-- a file of edition 1 with t tasks, s semaphores and c cells
 abbrev pub file : ℕ → ℕ → ℕ → List ℕ → List ℕ
-file t s c l = fileOf l (record { tasks = t; semaphores = s; cells = c })
+file t s c l = fileOf l (record { tasks = t; semaphores = s; cells = c; edition = 1 }) []
 
 abbrev pub A : List ℕ
 A = file 2 1 1 (W 0 ++ S 0 ++ P 1 ++ R 1)

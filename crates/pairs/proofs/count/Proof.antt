@@ -1,5 +1,6 @@
 -- count meets its contract: counted so far are the entries of the cells below `cell`. Assumes nothing.
 use mathlib.Core.Path.{_≡_, refl}
+use mathlib.Core.List.{[]}
 use Prim.Native.Nat.{_*_, _-_, _≤_}
 use native.Mathlib.Omega.{arith}
 use Rattle.model.specs.File.{recordingBy}
@@ -15,7 +16,7 @@ Inv-loop records counts positions chain safe cells pairs₀ cell₀ pairs cell =
     × (cell ≤ cells)
     × (cells ≡ counts .cells)
     × (pairs ≤ 1048576 * cell)
-    × Counted (λ R. cellEntries (recordingBy records counts) (vectorsIn records counts safe) R) cell pairs
+    × Counted (λ R. cellEntries (recordingBy records counts []) (vectorsIn records counts safe) R) cell pairs
 
 abbrev μ-loop : tie.MeasureT-loop
 μ-loop records counts positions chain safe cells pairs₀ cell₀ pairs cell = cells - cell

@@ -1,6 +1,7 @@
 -- count_cell meets its contract: counted so far are the rows of the events below a, which stands in the chain of the cell. Assumes nothing.
 use mathlib.Core.Path.{_≡_, sym, ap, _∙_}
 use mathlib.Core.Bool.{true}
+use mathlib.Core.List.{[]}
 use Prim.Native.Nat.{_+_, _*_, _-_, _≤_, _<_}
 use native.Mathlib.Omega.{arith}
 use lib.ListN.{length, getD}
@@ -22,7 +23,7 @@ Inv-loop records counts positions chain safe cell n pairs₀ a₀ pairs a =
     × (n ≡ length (eventsOf records))
     × (pairs ≤ 1024 * a)
     × (a < length (eventsOf records) → accessOf records cell a ≡ true)
-    × Counted (λ R. rowAt (recordingBy records counts) (vectorsIn records counts safe) R cell) a pairs
+    × Counted (λ R. rowAt (recordingBy records counts []) (vectorsIn records counts safe) R cell) a pairs
 
 abbrev μ-loop : tie.MeasureT-loop
 μ-loop records counts positions chain safe cell n pairs₀ a₀ pairs a = n - a
@@ -45,7 +46,7 @@ module _ (c : tie.In-loop Inv-loop μ-loop) where
   s = k .before .before .before .before .before
 
   abbrev E : Recording
-  E = recordingBy (s .args .records .now) (s .args .counts)
+  E = recordingBy (s .args .records .now) (s .args .counts) []
 
   abbrev X : Vectors
   X = vectorsIn (s .args .records .now) (s .args .counts) (s .args .safe .now)

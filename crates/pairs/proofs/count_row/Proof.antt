@@ -1,6 +1,7 @@
 -- count_row meets its contract: counted so far are the entries of the events below b, which stands in the chain of a. Assumes nothing.
 use mathlib.Core.Path.{_≡_, sym, ap}
 use mathlib.Core.Bool.{true}
+use mathlib.Core.List.{[]}
 use Prim.Native.Nat.{_+_, _-_, _≤_, _<_}
 use native.Mathlib.Omega.{arith}
 use lib.ListN.{length, getD}
@@ -20,7 +21,7 @@ Inv-loop records counts positions chain safe a n pairs₀ b₀ pairs b =
     × (n ≡ length (eventsOf records))
     × (pairs ≤ b)
     × (b < length (eventsOf records) → accessOf records (eventIn (eventsOf records) a .object) b ≡ true)
-    × Counted (λ R. pairAt (recordingBy records counts) (vectorsIn records counts safe) R a) b pairs
+    × Counted (λ R. pairAt (recordingBy records counts []) (vectorsIn records counts safe) R a) b pairs
 
 abbrev μ-loop : tie.MeasureT-loop
 μ-loop records counts positions chain safe a n pairs₀ b₀ pairs b = n - b
@@ -54,7 +55,7 @@ module _ (c : tie.After-count-pair Inv-loop μ-loop) where
 
   few : c .count-pair .result ≤ 1
   few =
-      pair-few (recordingBy (s .args .records .now) (s .args .counts)) (vectorsIn (s .args .records .now) (s .args .counts) (s .args .safe .now)) _ (s .args .a) (k .loop .b)
+      pair-few (recordingBy (s .args .records .now) (s .args .counts) []) (vectorsIn (s .args .records .now) (s .args .counts) (s .args .safe .now)) _ (s .args .a) (k .loop .b)
       (c .count-pair .ensures)
 
 loop-again : tie.Need-loop-again Inv-loop μ-loop

@@ -1,5 +1,6 @@
 -- race_pair meets its contract. Assumes nothing.
 use mathlib.Core.Path.{_≡_, sym, ap₂, _∙_}
+use mathlib.Core.List.{[]}
 use native.Mathlib.Omega.{arith}
 use borrow.Author.Needs.{needs}
 use borrow.Author.Tests.{not-true, not-false}
@@ -16,7 +17,7 @@ module _ (c : tie.After-conflict) where
   s = c .before .before .before .before .before .before
 
   abbrev E : Recording
-  E = recordingBy (s .args .records .now) (s .args .counts)
+  E = recordingBy (s .args .records .now) (s .args .counts) []
 
   the-conflict : c .conflict .result ≡ conflict (event E (s .args .a)) (event E (s .args .b))
   the-conflict = c .conflict .ensures ∙ ap₂ conflict (c .before .before .event-at .ensures) (c .before .event-at2 .ensures)

@@ -7,8 +7,7 @@ use Prim.Native.Nat.{ℕ, _-_, _≤_, _<_}
 use native.Mathlib.Omega.{arith}
 use lib.ListN.{length, drop, set, length-set, length-append}
 use Rattle.model.specs.Numbers.{picked}
-use Rattle.model.specs.Recording.{size}
-use Rattle.model.specs.File.{recordingBy}
+use Rattle.model.specs.File.{eventsOf}
 use Rattle.passes.specs.Lent.{vectorsIn}
 use Rattle.passes.specs.Steps.{candidate}
 use Rattle.passes.proofs.Waits.{picked-start, picked-hit, picked-miss, pick-one, candidates-all}
@@ -20,8 +19,8 @@ Inv-loop records counts positions v e s out₀ n c₀ a₀ out c a =
     (a ≤ n)
     × (c ≤ a)
     × (length out ≡ length out₀)
-    × (c ≡ length (picked (candidate (recordingBy records counts) (vectorsIn records counts v) e s) a))
-    × (out ≡ picked (candidate (recordingBy records counts) (vectorsIn records counts v) e s) a ++ drop c out₀)
+    × (c ≡ length (picked (candidate (eventsOf records) (vectorsIn records counts v) e s) a))
+    × (out ≡ picked (candidate (eventsOf records) (vectorsIn records counts v) e s) a ++ drop c out₀)
 
 abbrev μ-loop : tie.MeasureT-loop
 μ-loop records counts positions v e s out₀ n c₀ a₀ out c a = n - a
@@ -29,7 +28,7 @@ abbrev μ-loop : tie.MeasureT-loop
 loop-holds : tie.Need-loop-holds Inv-loop μ-loop
 loop-holds c =
     let r = c .before .before .before .before .args in
-    let p = candidate (recordingBy (r .records .now) (r .counts)) (vectorsIn (r .records .now) (r .counts) (r .v .now)) (r .e) (r .s) in
+    let p = candidate (eventsOf (r .records .now)) (vectorsIn (r .records .now) (r .counts) (r .v .now)) (r .e) (r .s) in
     rw (picked-start p) (omega arith, omega arith, refl, refl, refl)
 
 loop-again : tie.Need-loop-again Inv-loop μ-loop
@@ -37,7 +36,7 @@ loop-again c =
     let r = c .before .before .before .before .before .before .before .before .args in
     let k = c .before .before .before .loop in
     let f = c .before .is-candidate in
-    let p = candidate (recordingBy (r .records .now) (r .counts)) (vectorsIn (r .records .now) (r .counts) (r .v .now)) (r .e) (r .s) in
+    let p = candidate (eventsOf (r .records .now)) (vectorsIn (r .records .now) (r .counts) (r .v .now)) (r .e) (r .s) in
     let room : k .c < length (r .out .now) = omega arith in
     ⊎-elim
     (λ w.
@@ -58,9 +57,9 @@ returns : tie.Need-returns Inv-loop μ-loop
 returns c =
     let r = c .before .before .before .before .before .before .args in
     let k = c .before .loop in
-    let E = recordingBy (r .records .now) (r .counts) in
-    let q : k .a ≡ size E = omega arith in
-    let z = candidates-all E (vectorsIn (r .records .now) (r .counts) (r .v .now)) (r .e) (r .s) (k .a) q in
+    let l = eventsOf (r .records .now) in
+    let q : k .a ≡ length l = omega arith in
+    let z = candidates-all l (vectorsIn (r .records .now) (r .counts) (r .v .now)) (r .e) (r .s) (k .a) q in
     (k .inv .3 ∙ ap length z, k .inv .4 ∙ ap (λ (l : List ℕ). l ++ drop (k .c) (r .out .now)) z)
 
 pub candidates-spec : {M : Type 1} → statement M

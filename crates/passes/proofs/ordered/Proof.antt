@@ -4,9 +4,9 @@ use mathlib.Core.Path.{sym, ap, _∙_}
 use Prim.Native.Nat.{_<_}
 use native.Mathlib.Omega.{arith}
 use borrow.Author.Needs.{needs}
+use lib.ListN.{length}
 use Rattle.model.specs.declared.Event.{Event}
-use Rattle.model.specs.Recording.{size}
-use Rattle.model.specs.File.{recordingBy}
+use Rattle.model.specs.File.{eventsOf}
 use Rattle.model.specs.Vectors.{number}
 use Rattle.vectors.proofs.Chunks.{number-chunks}
 use Rattle.passes.specs.Lent.{vectorsIn}
@@ -27,18 +27,18 @@ the-task c =
 number-requires : tie.Need-number-requires
 number-requires c κs =
     let s = c .before .before .before .before .before .before .before .before in
-    in-rows (s .args .v .now) (size (recordingBy (s .args .records .now) (s .args .counts))) (s .args .counts .tasks) (s .args .b) (c .before .before .before .event-at .result .task)
+    in-rows (s .args .v .now) (length (eventsOf (s .args .records .now))) (s .args .counts .tasks) (s .args .b) (c .before .before .before .event-at .result .task)
     (s .pre .0 .1) (s .pre .1 .1) (the-task (c .before .before .before))
 
 returns-2 : tie.Need-returns-2
 returns-2 c =
     let s = c .before .before .before .before .before .before .before .before .before in
     let k = c .before .before .before .before in
-    let E = recordingBy (s .args .records .now) (s .args .counts) in
+    let l = eventsOf (s .args .records .now) in
     let X = vectorsIn (s .args .records .now) (s .args .counts) (s .args .v .now) in
-    ordered-by (E .events) X (s .args .a) (s .args .b) _ (c .number .result) (k .before .if1 .left) (s .pre .0 .0 .kept .placed (s .args .a) (s .pre .1 .0))
+    ordered-by l X (s .args .a) (s .args .b) _ (c .number .result) (k .before .if1 .left) (s .pre .0 .0 .kept .placed (s .args .a) (s .pre .1 .0))
     (c .number .ensures
-    ∙ sym (number-chunks (size E) (s .args .counts .tasks) (s .args .v .now) (s .args .b) (k .event-at .result .task) (s .pre .0 .1) (the-task k))
+    ∙ sym (number-chunks (length l) (s .args .counts .tasks) (s .args .v .now) (s .args .b) (k .event-at .result .task) (s .pre .0 .1) (the-task k))
     ∙ ap (λ (v : Event). number X (s .args .b) (v .task)) (k .event-at .ensures))
 
 pub ordered-spec : {M : Type 1} → statement M

@@ -15,38 +15,38 @@ use Rattle.passes.proofs.pass.Statement.{statement}
 use Rattle.passes.proofs.pass.Tie as tie
 
 abbrev Inv-loop : tie.InvT-loop
-Inv-loop records counts positions before v₀ n changed₀ e₀ v changed e =
-    (e ≤ n) × (length v ≡ length v₀) × (vectorsIn records counts v ≡ passTo (recordingBy records counts) (vectorsIn records counts v₀) e) × Rose v₀ v changed
+Inv-loop records counts levels positions before v₀ n changed₀ e₀ v changed e =
+    (e ≤ n) × (length v ≡ length v₀) × (vectorsIn records counts v ≡ passTo (recordingBy records counts levels) (vectorsIn records counts v₀) e) × Rose v₀ v changed
 
 abbrev μ-loop : tie.MeasureT-loop
-μ-loop records counts positions before v₀ n changed₀ e₀ v changed e = n - e
+μ-loop records counts levels positions before v₀ n changed₀ e₀ v changed e = n - e
 
 loop-holds : tie.Need-loop-holds Inv-loop μ-loop
 loop-holds c = (omega arith, refl, pass-start _ _, rose-none _)
 
 raise-event-requires : tie.Need-raise-event-requires Inv-loop μ-loop
 raise-event-requires c κs =
-    let s = c .before .before .before .before .before .before in
+    let s = c .before .before .before .before .before .before .before in
     let k = c .before .before .loop in
     (s .pre .0, k .inv .1 ∙ s .pre .1, omega (arith, s .pre .0 .records .whole), s .pre .2)
 
 loop-again : tie.Need-loop-again Inv-loop μ-loop
 loop-again c =
-    let a = c .before .before .before .before .before .before .before .before .before .args in
+    let a = c .before .before .before .before .before .before .before .before .before .before .args in
     let k = c .before .before .before .before .before .loop in
     let f = c .before .before .raise-event in (
       omega arith,
-      f .kept .1 .1 .1 .1 .1 .0 ∙ k .inv .1,
-      pass-next (recordingBy (a .records .now) (a .counts)) (vectorsIn (a .records .now) (a .counts) (a .v .now)) _ _ (k .e) (k .inv .2) (f .ensures .0),
+      f .kept .1 .1 .1 .1 .1 .1 .0 ∙ k .inv .1,
+      pass-next (recordingBy (a .records .now) (a .counts) (a .levels .now)) (vectorsIn (a .records .now) (a .counts) (a .v .now)) _ _ (k .e) (k .inv .2) (f .ensures .0),
       rose-then (k .inv .3) (f .ensures .1),
     )
 
 returns : tie.Need-returns Inv-loop μ-loop
 returns c =
-    let s = c .before .before .before .before .before in
+    let s = c .before .before .before .before .before .before in
     let a = s .args in
     let k = c .before .loop in
-    let E = recordingBy (a .records .now) (a .counts) in
+    let E = recordingBy (a .records .now) (a .counts) (a .levels .now) in
     let q : k .e ≡ size E = omega (arith, s .pre .0 .records .whole) in
     (pass-end E (vectorsIn (a .records .now) (a .counts) (a .v .now)) _ (k .e) q (k .inv .2), k .inv .3)
 

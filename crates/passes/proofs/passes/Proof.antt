@@ -15,45 +15,45 @@ use Rattle.passes.proofs.passes.Statement.{statement}
 use Rattle.passes.proofs.passes.Tie as tie
 
 abbrev Inv-loop : tie.InvT-loop
-Inv-loop records counts positions before budget v₀ made₀ v made = Fitting records counts v × (made ≤ budget) × Made (recordingBy records counts) made (vectorsIn records counts v)
+Inv-loop records counts levels positions before budget v₀ made₀ v made = Fitting records counts v × (made ≤ budget) × Made (recordingBy records counts levels) made (vectorsIn records counts v)
 
 abbrev μ-loop : tie.MeasureT-loop
-μ-loop records counts positions before budget v₀ made₀ v made = budget - made
+μ-loop records counts levels positions before budget v₀ made₀ v made = budget - made
 
 loop-holds : tie.Need-loop-holds Inv-loop μ-loop
 loop-holds c =
-    let s = c .before .before .before in
+    let s = c .before .before .before .before in
     let a = s .args in
-    let E = recordingBy (a .records .now) (a .counts) in
+    let E = recordingBy (a .records .now) (a .counts) (a .levels .now) in
     (s .pre .0 .1, omega arith, made-none E _ (ap (chunks (size E) (a .counts .tasks)) (s .pre .1) ∙ chunks-flat (size E) (a .counts .tasks) (start E) (start-shaped E)))
 
 returns : tie.Need-returns Inv-loop μ-loop
 returns c =
-    let a = c .before .before .before .before .before .before .before .before .before .before .args in
+    let a = c .before .before .before .before .before .before .before .before .before .before .before .args in
     let k = c .before .before .before .before .before .before .loop in
     let f = c .before .before .before .pass in
-    let E = recordingBy (a .records .now) (a .counts) in
-    let l = f .last .1 .1 .1 .1 .0 in
-    let h = f .kept .1 .1 .1 .1 .0 ∙ k .inv .0 in
+    let E = recordingBy (a .records .now) (a .counts) (a .levels .now) in
+    let l = f .last .1 .1 .1 .1 .1 .0 in
+    let h = f .kept .1 .1 .1 .1 .1 .0 ∙ k .inv .0 in
     let q = quiet (size E) (a .counts .tasks) (k .v) l (f .result) (k .inv .0) h (f .ensures .1) in
     let r = made-quiet E (k .made) _ _ (k .inv .2) (f .ensures .0) (a .budget) (omega arith) (q ∙ c .if1 .taken) in
     (r .0, (r .1, numbers-of (size E) (a .counts .tasks) l _ h (r .2)))
 
 loop-again : tie.Need-loop-again Inv-loop μ-loop
 loop-again c =
-    let a = c .before .before .before .before .before .before .before .before .before .before .args in
+    let a = c .before .before .before .before .before .before .before .before .before .before .before .args in
     let k = c .before .before .before .before .before .before .loop in
     let f = c .before .before .before .pass in
-    let E = recordingBy (a .records .now) (a .counts) in
-    let h = f .kept .1 .1 .1 .1 .0 ∙ k .inv .0 in
-    let q = quiet (size E) (a .counts .tasks) (k .v) (f .last .1 .1 .1 .1 .0) (f .result) (k .inv .0) h (f .ensures .1) in
+    let E = recordingBy (a .records .now) (a .counts) (a .levels .now) in
+    let h = f .kept .1 .1 .1 .1 .1 .0 ∙ k .inv .0 in
+    let q = quiet (size E) (a .counts .tasks) (k .v) (f .last .1 .1 .1 .1 .1 .0) (f .result) (k .inv .0) h (f .ensures .1) in
     (h, omega arith, made-more E (k .made) _ _ (k .inv .2) (f .ensures .0) (q ∙ c .if1 .left))
 
 returns-2 : tie.Need-returns-2 Inv-loop μ-loop
 returns-2 c =
-    let a = c .before .before .before .before .before .args in
+    let a = c .before .before .before .before .before .before .args in
     let k = c .before .loop in
-    let E = recordingBy (a .records .now) (a .counts) in
+    let E = recordingBy (a .records .now) (a .counts) (a .levels .now) in
     let r = made-spent E (k .made) (a .budget) _ (k .inv .2) (omega arith) in
     (r .0, (r .1, numbers-of (size E) (a .counts .tasks) (k .v) _ (k .inv .0) (r .2)))
 
@@ -64,7 +64,7 @@ passes-spec =
     Inv-loop
     μ-loop
     loop-holds
-    (λ c κs. let s = c .before .before .before .before .before .before in (s .pre .0 .0, c .before .before .loop .inv .0, s .pre .0 .2))
+    (λ c κs. let s = c .before .before .before .before .before .before .before in (s .pre .0 .0, c .before .before .loop .inv .0, s .pre .0 .2))
     (λ c. omega arith)
     (λ c. omega arith)
     returns

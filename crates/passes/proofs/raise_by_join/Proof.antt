@@ -1,6 +1,7 @@
 -- raise_by_join meets its contract: the fork's vector is taken, then that of the last event.
 -- Assumes nothing.
 use mathlib.Core.Path.{_≡_, sym, ap, _∙_}
+use mathlib.Core.List.{[]}
 use Prim.Native.Nat.{_/_}
 use native.Mathlib.Omega.{arith}
 use borrow.Author.Needs.{needs}
@@ -19,7 +20,7 @@ use Rattle.passes.proofs.raise_by_join.Tie as tie
 returns : tie.Need-returns
 returns c =
     let s = c .before .before .before .before .before in
-    let E = recordingBy (s .args .records .now) (s .args .counts) in
+    let E = recordingBy (s .args .records .now) (s .args .counts) [] in
     let l = s .args .v .now in
     let d = ap (λ (v : Event). v .kind) (c .before .before .event-at .ensures) in (
       join-other E (vectorsIn (s .args .records .now) (s .args .counts) l) (s .args .e) (chunks-shaped (size E) (s .args .counts .tasks) l (s .pre .1)) (s .pre .2)
@@ -30,7 +31,7 @@ returns c =
 raise-found-requires : tie.Need-raise-found-requires
 raise-found-requires c κs =
     let s = c .before .before .before .before .before .before .before .before in
-    let E = recordingBy (s .args .records .now) (s .args .counts) in
+    let E = recordingBy (s .args .records .now) (s .args .counts) [] in
     let m = s .args .counts .tasks in
     let n : length (s .args .records .now) / 4 ≡ size E = omega (arith, s .pre .0 .whole) in
     (omega (arith, next-row (s .args .e) (size E) m (s .pre .2)), inside m (size E) _ (c .before .last-on .result) (s .pre .1) (found-below _ _ (size E) _ (c .before .last-on .ensures) n))
@@ -38,7 +39,7 @@ raise-found-requires c κs =
 raise-found-requires-2 : tie.Need-raise-found-requires-2
 raise-found-requires-2 c κs =
     let s = c .before .before .before .before .before .before .before .before .before .before .before .before .before in
-    let E = recordingBy (s .args .records .now) (s .args .counts) in
+    let E = recordingBy (s .args .records .now) (s .args .counts) [] in
     let m = s .args .counts .tasks in
     let n : length (s .args .records .now) / 4 ≡ size E = omega (arith, s .pre .0 .whole) in
     let k = c .before .before .before .before .raise-found .kept .0 ∙ s .pre .1 in
@@ -47,7 +48,7 @@ raise-found-requires-2 c κs =
 returns-2 : tie.Need-returns-2
 returns-2 c =
     let s = c .before .before .before .before .before .before .before .before .before .before .before .before .before .before .before .before in
-    let E = recordingBy (s .args .records .now) (s .args .counts) in
+    let E = recordingBy (s .args .records .now) (s .args .counts) [] in
     let l = eventsOf (s .args .records .now) in
     let n : length (s .args .records .now) / 4 ≡ size E = omega (arith, s .pre .0 .whole) in
     let x = c .before .before .before .before .before .before .before .raise-found in

@@ -7,8 +7,7 @@ use native.Mathlib.Omega.{arith}
 use borrow.Author.Needs.{needs}
 use lib.ListN.{length, take}
 use lib.Seq.{take-at}
-use Rattle.model.specs.Recording.{size}
-use Rattle.model.specs.File.{recordingBy}
+use Rattle.model.specs.File.{eventsOf}
 use Rattle.vectors.specs.Rows.{chunks}
 use Rattle.vectors.proofs.Chunks.{next-row}
 use Rattle.passes.specs.Lent.{vectorsIn}
@@ -21,7 +20,7 @@ use Rattle.passes.proofs.raise_wait.Tie as tie
 abbrev listed : tie.After-candidates → List ℕ
 listed c =
     let a = c .before .before .before .before .before .before .args in
-    candidatesOn (recordingBy (a .records .now) (a .counts)) (vectorsIn (a .records .now) (a .counts) (a .v .now)) (a .e) (a .s)
+    candidatesOn (eventsOf (a .records .now)) (vectorsIn (a .records .now) (a .counts) (a .v .now)) (a .e) (a .s)
 
 the-found : (c : tie.After-candidates) → take (c .candidates .result) (c .candidates .last .1 .1 .1 .1 .1 .1 .0) ≡ listed c
 the-found c = ap (take (c .candidates .result)) (c .candidates .ensures .1) ∙ take-at (listed c) _ _ (sym (c .candidates .ensures .0))
@@ -30,30 +29,30 @@ few : (c : tie.After-candidates) → c .candidates .result ≤ 1024
 few c =
     let s = c .before .before .before .before .before .before in
     let a = s .args in
-    omega (arith, c .candidates .ensures .0, candidates-few (recordingBy (a .records .now) (a .counts)) (vectorsIn (a .records .now) (a .counts) (a .v .now)) (a .e) (a .s), s .pre .0 .records .few)
+    omega (arith, c .candidates .ensures .0, candidates-few (eventsOf (a .records .now)) (vectorsIn (a .records .now) (a .counts) (a .v .now)) (a .e) (a .s), s .pre .0 .records .few)
 
 raise-to-kth-requires : tie.Need-raise-to-kth-requires
 raise-to-kth-requires c κs =
-    let d = c .before .before .before .before .before .before in
-    let s = c .before .before .before .before .before .before .before .before .before .before .before .before in
+    let d = c .before .before .before .before in
+    let s = c .before .before .before .before .before .before .before .before .before .before in
     let a = s .args in
-    let E = recordingBy (a .records .now) (a .counts) in
+    let l = eventsOf (a .records .now) in
     let X = vectorsIn (a .records .now) (a .counts) (a .v .now) in
     let m = a .counts .tasks in
     rw (the-found d) (
-      (omega (arith, next-row (a .e) (size E) m (s .pre .2), s .pre .1), omega (arith, few d, d .candidates .ensures .0)),
-      λ i h. omega (arith, next-row _ (size E) m (candidates-below E X (a .e) (a .s) i h), s .pre .1),
+      (omega (arith, next-row (a .e) (length l) m (s .pre .2), s .pre .1), omega (arith, few d, d .candidates .ensures .0)),
+      λ i h. omega (arith, next-row _ (length l) m (candidates-below l X (a .e) (a .s) i h), s .pre .1),
     )
 
 returns : tie.Need-returns
 returns c =
-    let d = c .before .before .before .before .before .before .before .before .before in
-    let s = c .before .before .before .before .before .before .before .before .before .before .before .before .before .before .before in
+    let d = c .before .before .before .before .before .before .before in
+    let s = c .before .before .before .before .before .before .before .before .before .before .before .before .before in
     let a = s .args in
-    let E = recordingBy (a .records .now) (a .counts) in
+    let l = eventsOf (a .records .now) in
     let f = c .before .before .raise-to-kth in (
-      ap (chunks (size E) (a .counts .tasks)) (f .ensures .0)
-          ∙ chunks-waited E (a .v .now) (a .e) (a .s) (c .before .before .before .before .before .before .needed .result) _ (s .pre .1) (s .pre .2) (c .before .before .before .before .before .before .needed .ensures) (the-found d),
+      ap (chunks (length l) (a .counts .tasks)) (f .ensures .0)
+          ∙ chunks-waited (a .counts) l (a .v .now) (a .e) (a .s) (a .k) _ (s .pre .1) (s .pre .2) (the-found d),
       f .ensures .1,
     )
 
@@ -63,10 +62,9 @@ raise-wait-spec =
     (tie.spec
     (λ c. search needs)
     (λ c κs. (c .before .before .before .before .before .pre, search needs))
-    (λ c κs. c .before .before .before .before .before .before .before .before .pre)
     (λ c. search needs)
-    (λ c. omega (arith, few (c .before .before .before .before .before)))
-    (λ c. c .before .before .before .before .before .before .candidates .ensures .0 ∙ ap length (sym (the-found (c .before .before .before .before .before .before))))
+    (λ c. omega (arith, few (c .before .before .before)))
+    (λ c. c .before .before .before .before .candidates .ensures .0 ∙ ap length (sym (the-found (c .before .before .before .before))))
     raise-to-kth-requires
     (λ c. omega arith)
     returns)

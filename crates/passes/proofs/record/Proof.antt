@@ -7,8 +7,7 @@ use native.Mathlib.Omega.{arith}
 use borrow.Author.Needs.{needs}
 use lib.ListN.{length, take, drop}
 use lib.Seq.{length-take-le}
-use Rattle.model.specs.Recording.{size}
-use Rattle.model.specs.File.{recordingBy}
+use Rattle.model.specs.File.{eventsOf}
 use Rattle.passes.proofs.record.Statement.{statement}
 use Rattle.passes.proofs.record.Tie as tie
 
@@ -17,9 +16,9 @@ module _ (s : tie.Start) where
   abbrev numbers : ℕ
   numbers = length (s .args .records .now) / 4 * s .args .counts .tasks
 
-  as-many : numbers ≡ size (recordingBy (s .args .records .now) (s .args .counts)) * s .args .counts .tasks
+  as-many : numbers ≡ length (eventsOf (s .args .records .now)) * s .args .counts .tasks
   as-many =
-      let n : length (s .args .records .now) / 4 ≡ size (recordingBy (s .args .records .now) (s .args .counts)) = omega (arith, s .pre .0 .records .whole) in
+      let n : length (s .args .records .now) / 4 ≡ length (eventsOf (s .args .records .now)) = omega (arith, s .pre .0 .records .whole) in
       ap (λ (n : ℕ). n * s .args .counts .tasks) n
 
   fits : numbers ≤ length (s .args .v .now)
@@ -30,12 +29,12 @@ module _ (s : tie.Start) where
 
 record-all-requires : tie.Need-record-all-requires
 record-all-requires c κs =
-    let s = c .before .before .before .before .before in
+    let s = c .before .before .before .before .before .before in
     (s .pre .0, part-length s ∙ as-many s, s .pre .2)
 
 returns : tie.Need-returns
 returns c =
-    let s = c .before .before .before .before .before .before .before .before in
+    let s = c .before .before .before .before .before .before .before .before .before in
     ap₂ _++_ (c .before .before .record-all .ensures) (ap (λ (n : ℕ). drop n (s .args .v .now)) (as-many s))
 
 pub record-spec : {M : Type 1} → statement M
@@ -43,9 +42,9 @@ record-spec =
     tie.close
     (tie.spec
     (λ c. search needs)
-    (λ c. omega (arith, fits (c .before .before .before .before)))
-    (λ c. fits (c .before .before .before .before))
-    (λ c. sym (part-length (c .before .before .before .before .before)))
+    (λ c. omega (arith, fits (c .before .before .before .before .before)))
+    (λ c. fits (c .before .before .before .before .before))
+    (λ c. sym (part-length (c .before .before .before .before .before .before)))
     record-all-requires
     (λ c. omega arith)
     returns)

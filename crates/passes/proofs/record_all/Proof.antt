@@ -5,56 +5,57 @@ use Prim.Native.Nat.{_-_, _≤_}
 use native.Mathlib.Omega.{arith}
 use Rattle.model.specs.Recording.{size}
 use Rattle.model.specs.File.{recordingBy}
-use Rattle.model.specs.Vectors.{start}
+use Rattle.model.specs.Vectors.{flat, start}
 use Rattle.model.specs.Recorded.{recordedTo}
 use Rattle.model.proofs.Climb.{start-shaped}
 use Rattle.vectors.specs.Rows.{chunks}
 use Rattle.vectors.proofs.Chunks.{chunks-flat}
 use Rattle.passes.specs.Lent.{vectorsIn, Fitting}
 use Rattle.passes.specs.Matching.{Matching}
+use Rattle.model.proofs.Levels.{start-levels}
 use Rattle.passes.proofs.Matching.{start as first-match}
 use Rattle.passes.proofs.Runs.{record-start, record-next, record-end, numbers-of}
 use Rattle.passes.proofs.record_all.Statement.{statement}
 use Rattle.passes.proofs.record_all.Tie as tie
 
 abbrev Inv-loop : tie.InvT-loop
-Inv-loop records counts positions before v₀ n chain₀ e₀ v chain e =
-    (e ≤ n) × Fitting records counts v × (vectorsIn records counts v ≡ recordedTo (recordingBy records counts) e) × Matching records e chain
+Inv-loop records counts levels positions before v₀ n unmatched₀ chain₀ e₀ v unmatched chain e =
+    (e ≤ n) × Fitting records counts v × (vectorsIn records counts v ≡ recordedTo (recordingBy records counts levels) e) × Matching records levels e unmatched chain
 
 abbrev μ-loop : tie.MeasureT-loop
-μ-loop records counts positions before v₀ n chain₀ e₀ v chain e = n - e
+μ-loop records counts levels positions before v₀ n unmatched₀ chain₀ e₀ v unmatched chain e = n - e
 
 loop-holds : tie.Need-loop-holds Inv-loop μ-loop
 loop-holds c =
-    let s = c .before .before .before .before .before .before .before .before in
+    let s = c .before .before .before .before .before .before .before .before .before in
     let a = s .args in
     let f = c .before .before .before .start in
-    let E = recordingBy (a .records .now) (a .counts) in (
+    let E = recordingBy (a .records .now) (a .counts) (a .levels .now) in (
       omega arith,
       f .kept .1 .1 .1 .0 ∙ s .pre .1,
-      record-start E _ (ap (chunks (size E) (a .counts .tasks)) (f .ensures) ∙ chunks-flat (size E) (a .counts .tasks) (start E) (start-shaped E)),
-      first-match (a .records .now) _ _ (omega (arith, s .pre .0 .records .whole)) (c .gather .ensures),
+      record-start E _ (ap (chunks (size E) (a .counts .tasks)) (f .ensures ∙ ap flat (start-levels (a .records .now) (a .counts) (a .levels .now))) ∙ chunks-flat (size E) (a .counts .tasks) (start E) (start-shaped E)),
+      first-match (a .records .now) (a .levels .now) _ _ (omega (arith, s .pre .0 .records .whole)) (c .gather .ensures),
     )
 
 record-event-requires : tie.Need-record-event-requires Inv-loop μ-loop
 record-event-requires c κs =
-    let s = c .before .before .before .before .before .before .before .before .before .before .before .before in
-    let k = c .before .before .before .loop in
+    let s = c .before .before .before .before .before .before .before .before .before .before .before .before .before .before in
+    let k = c .before .before .before .before .loop in
     ((s .pre .0 .records, k .inv .1, omega (arith, s .pre .0 .records .whole), s .pre .2), k .inv .3)
 
 loop-again : tie.Need-loop-again Inv-loop μ-loop
 loop-again c =
-    let a = c .before .before .before .before .before .before .before .before .before .before .before .before .before .before .before .args in
-    let k = c .before .before .before .before .before .before .loop in
+    let a = c .before .before .before .before .before .before .before .before .before .before .before .before .before .before .before .before .before .args in
+    let k = c .before .before .before .before .before .before .before .loop in
     let f = c .before .before .record-event in
-    (omega arith, f .kept .1 .1 .1 .1 .1 .0 ∙ k .inv .1, record-next (recordingBy (a .records .now) (a .counts)) _ _ (k .e) (k .inv .2) (f .ensures .0), f .ensures .1)
+    (omega arith, f .kept .1 .1 .1 .1 .1 .1 .1 .0 ∙ k .inv .1, record-next (recordingBy (a .records .now) (a .counts) (a .levels .now)) _ _ (k .e) (k .inv .2) (f .ensures .0), f .ensures .1)
 
 returns : tie.Need-returns Inv-loop μ-loop
 returns c =
-    let s = c .before .before .before .before .before .before .before .before .before .before in
+    let s = c .before .before .before .before .before .before .before .before .before .before .before in
     let a = s .args in
     let k = c .before .loop in
-    let E = recordingBy (a .records .now) (a .counts) in
+    let E = recordingBy (a .records .now) (a .counts) (a .levels .now) in
     let q : k .e ≡ size E = omega (arith, s .pre .0 .records .whole) in
     numbers-of (size E) (a .counts .tasks) (k .v) _ (k .inv .1) (record-end E _ (k .e) q (k .inv .2))
 
@@ -64,7 +65,7 @@ record-all-spec =
     (tie.spec
     Inv-loop
     μ-loop
-    (λ c κs. let s = c .before .before .before .before in (s .pre .0, s .pre .1))
+    (λ c κs. let s = c .before .before .before .before .before in (s .pre .0, s .pre .1))
     (λ c κs. omega arith)
     loop-holds
     record-event-requires

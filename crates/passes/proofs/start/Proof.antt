@@ -1,6 +1,7 @@
 -- start meets its contract: to write the later rows over what is there gives the whole.
 -- Assumes nothing.
 use mathlib.Core.Path.{_≡_, refl, _∙_}
+use mathlib.Core.List.{[]}
 use Prim.Native.Nat.{_+_, _-_, _≤_, _<_}
 use native.Mathlib.Omega.{arith}
 use borrow.Author.Needs.{needs}
@@ -17,8 +18,8 @@ abbrev Inv-loop : tie.InvT-loop
 Inv-loop records counts positions v₀ n tasks from₀ e₀ v from e =
     (e ≤ n)
     × (length v ≡ length v₀)
-    × (sets v from (rowsFrom (recordingBy records counts) e) ≡ sets v₀ 0 (flat (start (recordingBy records counts))))
-    × (from + length (rowsFrom (recordingBy records counts) e) ≡ length v₀)
+    × (sets v from (rowsFrom (recordingBy records counts []) e) ≡ sets v₀ 0 (flat (start (recordingBy records counts []))))
+    × (from + length (rowsFrom (recordingBy records counts []) e) ≡ length v₀)
 
 abbrev μ-loop : tie.MeasureT-loop
 μ-loop records counts positions v₀ n tasks from₀ e₀ v from e = n - e
@@ -26,14 +27,14 @@ abbrev μ-loop : tie.MeasureT-loop
 loop-holds : tie.Need-loop-holds Inv-loop μ-loop
 loop-holds c =
     let s = c .before .before .before .before in
-    let E = recordingBy (s .args .records .now) (s .args .counts) in
+    let E = recordingBy (s .args .records .now) (s .args .counts) [] in
     rw (rows-start E) (omega arith, refl, refl, omega (arith, start-length E, s .pre .1))
 
 start-event-requires : tie.Need-start-event-requires Inv-loop μ-loop
 start-event-requires c κs =
     let s = c .before .before .before .before .before .before .before in
     let k = c .before .before .loop in
-    let E = recordingBy (s .args .records .now) (s .args .counts) in
+    let E = recordingBy (s .args .records .now) (s .args .counts) [] in
     let h : k .e < size E = omega (arith, s .pre .0 .records .whole) in
     (s .pre .0, h, omega (arith, row-fits E (k .e) h))
 
@@ -41,7 +42,7 @@ add-from : tie.Need-add-from Inv-loop μ-loop
 add-from c =
     let s = c .before .before .before .before .before .before .before .before .before .before in
     let k = c .before .before .before .before .before .loop in
-    let E = recordingBy (s .args .records .now) (s .args .counts) in
+    let E = recordingBy (s .args .records .now) (s .args .counts) [] in
     let h : k .e < size E = omega (arith, s .pre .0 .records .whole) in
     omega (arith, row-fits E (k .e) h)
 
@@ -50,7 +51,7 @@ loop-again c =
     let s = c .before .before .before .before .before .before .before .before .before .before in
     let k = c .before .before .before .before .before .loop in
     let f = c .before .before .start-event in
-    let E = recordingBy (s .args .records .now) (s .args .counts) in
+    let E = recordingBy (s .args .records .now) (s .args .counts) [] in
     let h : k .e < size E = omega (arith, s .pre .0 .records .whole) in
     let r = row-stored E (k .e) h (k .v) (f .last .1 .1 .1 .1 .1 .0) (k .from) (f .ensures) in
     (omega arith, f .kept .1 .1 .1 .1 .1 .0 ∙ k .inv .1, r .0 ∙ k .inv .2, r .1 ∙ k .inv .3)
@@ -59,7 +60,7 @@ returns : tie.Need-returns Inv-loop μ-loop
 returns c =
     let s = c .before .before .before .before .before .before in
     let k = c .before .loop in
-    let E = recordingBy (s .args .records .now) (s .args .counts) in
+    let E = recordingBy (s .args .records .now) (s .args .counts) [] in
     rw (rows-end E (k .e) (omega (arith, s .pre .0 .records .whole))) at (k .inv .2) ∙ start-stored E (s .args .v .now) (s .pre .1)
 
 pub start-spec : {M : Type 1} → statement M

@@ -1,12 +1,13 @@
 -- step_one meets its contract: the event before or the fork is taken, then what a join adds.
 -- Assumes nothing.
 use mathlib.Core.Path.{_≡_, ap, subst, _∙_}
+use mathlib.Core.List.{[]}
 use Prim.Native.Nat.{ℕ, _/_}
 use native.Mathlib.Omega.{arith}
 use borrow.Author.Needs.{needs}
 use lib.ListN.{length, getD}
 use Rattle.model.specs.Recording.{size}
-use Rattle.model.specs.File.{recordingBy}
+use Rattle.model.specs.File.{eventsOf, recordingBy}
 use Rattle.vectors.specs.Rows.{chunks}
 use Rattle.vectors.proofs.Chunks.{next-row, chunks-shaped}
 use Rattle.vectors.proofs.Rising.{rose-then}
@@ -17,13 +18,13 @@ use Rattle.passes.proofs.step_one.Statement.{statement}
 use Rattle.passes.proofs.step_one.Tie as tie
 
 -- N, by the length of the records
-events : (s : tie.Start) → length (s .args .records .now) / 4 ≡ size (recordingBy (s .args .records .now) (s .args .counts))
+events : (s : tie.Start) → length (s .args .records .now) / 4 ≡ length (eventsOf (s .args .records .now))
 events s = omega (arith, s .pre .0 .whole)
 
 raise-found-requires : tie.Need-raise-found-requires
 raise-found-requires c κs =
     let s = c .before .before .before .before .before .before in
-    let E = recordingBy (s .args .records .now) (s .args .counts) in
+    let E = recordingBy (s .args .records .now) (s .args .counts) [] in
     let m = s .args .counts .tasks in
     let f = c .before .before .found-below in
     (omega (arith, next-row (s .args .e) (size E) m (s .pre .2)), taken.inside m (size E) _ (f .result) (s .pre .1) (subst (λ (n : ℕ). Below n (f .result)) (events s) (f .ensures .1)))
@@ -38,7 +39,7 @@ returns c =
     let s = c .before .before .before .before .before .before .before .before .before .before .before .before .before in
     let r = s .args .records .now in
     let a = s .args .counts in
-    let E = recordingBy r a in
+    let E = recordingBy r a [] in
     let l = s .args .v .now in
     let f = c .before .before .before .before .before .before .before .before .before .found-below in
     let x = c .before .before .before .before .before .before .raise-found in

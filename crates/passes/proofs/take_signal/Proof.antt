@@ -1,23 +1,24 @@
--- take_signal meets its contract: what is at hand on the semaphore of a wait is matched with it. Assumes nothing.
-use mathlib.Core.Path.{_≡_, refl, sym, ap, _∙_}
+-- take_signal meets its contract: the first waits on a semaphore, as many as its start count, are counted; what is at hand is matched
+-- with a later one. Assumes nothing.
+use mathlib.Core.Path.{_≡_, refl, sym, ap, subst, _∙_}
 use mathlib.Core.Bool.{true, false}
-use Prim.Native.Nat.{ℕ, _≤_, _<_}
+use Prim.Native.Nat.{ℕ, _+_, _-_, _≤_, _<_, min}
 use native.Mathlib.Omega.{arith}
 use borrow.Author.Needs.{needs}
-use lib.ListN.{length, getD}
+use lib.ListN.{length, getD, set}
 use lib.Seq.{set-getD}
 use Rattle.model.specs.declared.Event.{Event}
 use Rattle.model.specs.declared.Found.{Found}
 use Rattle.model.specs.Numbers.{tally, nth}
-use Rattle.model.specs.Recording.{Recording, isWait, event, wait}
+use Rattle.model.specs.Recording.{startOf, Recording, isWait, event, wait}
 use Rattle.model.specs.File.{eventsOf, recordingBy}
 use Rattle.model.specs.Passes.{signalsOn}
 use Rattle.model.specs.Recorded.{matched}
 use Rattle.model.proofs.Tests.{both, eq-eqb, ne-eqb}
 use Rattle.events.specs.Chains.{head}
-use Rattle.passes.specs.Matching.{waitAt, AtHand}
-use Rattle.passes.proofs.Searches.{matched-wait, matched-other}
-use Rattle.passes.proofs.Matching.{next-other, next-wait, taken-next, none-next, hand-at, hand-none}
+use Rattle.passes.specs.Matching.{waitAt, AtHand, Matching}
+use Rattle.passes.proofs.Searches.{matched-early, matched-later, matched-other}
+use Rattle.passes.proofs.Matching.{next-other, next-early, next-later, taken-next, none-next, hand-at, hand-none}
 use Rattle.passes.proofs.take_signal.Statement.{statement}
 use Rattle.passes.proofs.take_signal.Tie as tie
 
@@ -27,10 +28,10 @@ no-wait x v d = rw (ne-eqb (v .kind) wait d)
 returns : tie.Need-returns
 returns c =
     let t = c .before .before in
-    let s = t .before .before in
+    let s = t .before .before .before in
     let w = t .event-at .ensures in (
-      (matched-other (recordingBy (s .args .records .now) (s .args .counts)) (s .args .e) (λ q. c .if1 .taken (ap (λ (v : Event). v .kind) w ∙ q)), tt),
-      next-other _ _ _ (s .pre .2) (λ x. sym (ap (isWait x) w) ∙ no-wait x (t .event-at .result) (c .if1 .taken)),
+      (matched-other (recordingBy (s .args .records .now) (s .args .counts) (s .args .levels .now)) (s .args .e) (λ q. c .if1 .taken (ap (λ (v : Event). v .kind) w ∙ q)), tt),
+      next-other _ _ _ _ _ (s .pre .2) (λ x. sym (ap (isWait x) w) ∙ no-wait x (t .event-at .result) (c .if1 .taken)),
     )
 
 -- a wait on the semaphore that its event names
@@ -39,13 +40,13 @@ module _ (c : tie.Else1) where
   t = c .before .before
 
   abbrev s : tie.Start
-  s = t .before .before
+  s = t .before .before .before
 
   abbrev v : Event
   v = t .event-at .result
 
   abbrev E : Recording
-  E = recordingBy (s .args .records .now) (s .args .counts)
+  E = recordingBy (s .args .records .now) (s .args .counts) (s .args .levels .now)
 
   abbrev object : ℕ
   object = v .object
@@ -62,34 +63,74 @@ module _ (c : tie.Else1) where
   waiting : waitAt (s .args .records .now) object (s .args .e) ≡ true
   waiting = sym (ap (isWait object) (t .event-at .ensures)) ∙ both (eq-eqb (v .kind) wait (c .if1 .left)) (eq-eqb object object refl)
 
-  hand : AtHand (s .args .records .now) object (tally (waitAt (s .args .records .now) object) (s .args .e)) (getD (s .args .chain .now) (head object) 0)
+  -- the start count of semaphore x, and the waits on it before this one
+  abbrev first : ℕ → ℕ
+  first x = startOf (E .levels) x
+
+  abbrev waits : ℕ → ℕ
+  waits x = tally (waitAt (s .args .records .now) x) (s .args .e)
+
+  abbrev unmatched : ℕ
+  unmatched = getD (s .args .unmatched .now) object 0
+
+  counted : unmatched ≡ min (first object) (waits object)
+  counted = s .pre .2 .counted object small
+
+  hand : AtHand (s .args .records .now) object (waits object - first object) (getD (s .args .chain .now) (head object) 0)
   hand = s .pre .2 .heads object small
 
-  the-match : (f : Found) → f ≡ nth (signalsOn (E .events) object) (tally (waitAt (s .args .records .now) object) (s .args .e)) → f ≡ matched (E .events) (s .args .e)
-  the-match f q = q ∙ ap (λ (x : ℕ). nth (signalsOn (E .events) x) (tally (waitAt (s .args .records .now) x) (s .args .e))) same ∙ matched-wait E (s .args .e) kind
+  early-match : unmatched < first object → Found.Nothing ≡ matched (E .levels) (E .events) (s .args .e)
+  early-match h =
+      let l : waits object < first object = omega (arith, counted) in
+      matched-early E (s .args .e) kind (subst (λ (x : ℕ). waits x < first x) same l)
+
+  later-match : first object ≤ unmatched → (f : Found) → f ≡ nth (signalsOn (E .events) object) (waits object - first object)
+      → f ≡ matched (E .levels) (E .events) (s .args .e)
+  later-match h f q =
+      let l : first object ≤ waits object = omega (arith, counted) in
+      q ∙ ap (λ (x : ℕ). nth (signalsOn (E .events) x) (waits x - first x)) same ∙ matched-later E (s .args .e) kind (subst (λ (x : ℕ). first x ≤ waits x) same l)
 
 returns-2 : tie.Need-returns-2
 returns-2 c =
-    let d = c .before .before .before in
-    let r = s d .args .records .now in
-    let n : length (eventsOf r) ≤ getD (s d .args .chain .now) (head (object d)) 0 = omega (arith, s d .pre .0 .whole) in (
-      (the-match d _ (hand-none r (s d .args .counts) (object d) _ _ (hand d) n), tt),
-      rw (set-getD (s d .args .chain .now) (head (object d)) 0) at
-          (next-wait r (s d .args .e) (s d .args .chain .now) (s d .pre .2) (object d) (small d) (waiting d) _ (none-next r (object d) _ _ n (hand d)) (s d .pre .0 .few)),
-    )
+    let d = c .before .before .before .before .before in
+    let h : unmatched d < first d (object d) = omega (arith, c .before .before .start-of .ensures) in
+    ((early-match d h, tt), next-early _ _ _ _ _ (s d .pre .2) (object d) (small d) (waiting d) h)
 
--- a signal is at hand
-at-hand : (c : tie.Else2) → getD (s (c .before .before .before) .args .chain .now) (head (object (c .before .before .before))) 0 < length (eventsOf (s (c .before .before .before) .args .records .now))
-at-hand c = let d = c .before .before .before in omega (arith, s d .pre .0 .whole)
+-- a later wait
+module _ (c : tie.Else2) where
+  abbrev d : tie.Else1
+  d = c .before .before .before .before
+
+  later : first d (object d) ≤ unmatched d
+  later = omega (arith, c .before .start-of .ensures)
+
+  -- the state after it, by what is at hand then
+  hand-next : (a : ℕ) → AtHand (s d .args .records .now) (object d) (waits d (object d) - first d (object d) + 1) a
+      → Matching (s d .args .records .now) (s d .args .levels .now) (s d .args .e + 1) (s d .args .unmatched .now) (set (s d .args .chain .now) (head (object d)) a)
+  hand-next a n = next-later _ _ _ _ _ (s d .pre .2) (object d) (small d) (waiting d) later a n (s d .pre .0 .few)
 
 returns-3 : tie.Need-returns-3
 returns-3 c =
-    let d = c .before .before .before .before in
+    let g = c .before .before in
+    let d = d g in
+    let r = s d .args .records .now in
+    let n : length (eventsOf r) ≤ getD (s d .args .chain .now) (head (object d)) 0 = omega (arith, s d .pre .0 .whole) in (
+      (later-match d (later g) _ (hand-none r (object d) _ _ (hand d) n), tt),
+      rw (set-getD (s d .args .chain .now) (head (object d)) 0) at (hand-next g _ (none-next r (object d) _ _ n (hand d))),
+    )
+
+-- a signal is at hand
+at-hand : (c : tie.Else3) → getD (s (d (c .before .before)) .args .chain .now) (head (object (d (c .before .before)))) 0 < length (eventsOf (s (d (c .before .before)) .args .records .now))
+at-hand c = let g = c .before .before in omega (arith, s (d g) .pre .0 .whole)
+
+returns-4 : tie.Need-returns-4
+returns-4 c =
+    let g = c .before .before .before in
+    let d = d g in
     let r = s d .args .records .now in
     let l = at-hand (c .before) in (
-      (the-match d _ (hand-at r (s d .args .counts) (object d) _ _ (hand d) l), l),
-      next-wait r (s d .args .e) (s d .args .chain .now) (s d .pre .2) (object d) (small d) (waiting d) _
-          (taken-next r (s d .args .e) (s d .args .chain .now) (s d .pre .2) (object d) _ _ (small d) l (hand d)) (s d .pre .0 .few),
+      (later-match d (later g) _ (hand-at r (object d) _ _ (hand d) l), l),
+      hand-next g _ (taken-next _ _ _ _ _ (s d .pre .2) (object d) _ _ (small d) l (hand d)),
     )
 
 pub take-signal-spec : {M : Type 1} → statement M
@@ -100,12 +141,20 @@ take-signal-spec =
     returns
     (λ c. search needs)
     (λ c. search needs)
-    (λ c. search needs)
     (λ c. omega (arith, small (c .before)))
-    (λ c. omega (arith, hand (c .before .before) .high, s (c .before .before) .pre .0 .few))
+    (λ c κs. search needs)
+    (λ c. search needs)
+    (λ c. omega (arith, small (c .before .before .before .before)))
+    (λ c. search needs)
+    (λ c. omega (arith, small (c .before .before .before .before .before)))
     returns-2
-    (λ c. omega (arith, at-hand c, s (c .before .before .before) .pre .0 .few))
-    (λ c. omega (arith, at-hand c, s (c .before .before .before) .pre .0 .few))
-    (λ c. omega (arith, small (c .before .before .before .before)))
-    (λ c. omega (arith, small (c .before .before .before .before)))
-    returns-3)
+    (λ c. search needs)
+    (λ c. search needs)
+    (λ c. omega (arith, small (d c)))
+    (λ c. let e = d (c .before) in omega (arith, hand e .high, s e .pre .0 .few))
+    returns-3
+    (λ c. omega (arith, at-hand c, s (d (c .before .before)) .pre .0 .few))
+    (λ c. omega (arith, at-hand c, s (d (c .before .before)) .pre .0 .few))
+    (λ c. omega (arith, small (d (c .before .before .before))))
+    (λ c. omega (arith, small (d (c .before .before .before))))
+    returns-4)

@@ -6,7 +6,7 @@ use borrow.Author.Needs.{needs}
 use lib.ListN.{length, take}
 use Rattle.model.specs.declared.Check.{Check}
 use Rattle.model.specs.Recording.{firstFault, recordCheck}
-use Rattle.model.specs.File.{eventsOf, recordingBy}
+use Rattle.model.specs.File.{eventsOf, levelsBy, recordingBy}
 use Rattle.model.proofs.Files.{in-range}
 use Rattle.rules.specs.Running.{Small, Running}
 use Rattle.rules.proofs.Laws.{before-length, before-next, fault-none, fault-first}
@@ -15,17 +15,17 @@ use Rattle.rules.proofs.first_fault.Statement.{statement}
 use Rattle.rules.proofs.first_fault.Tie as tie
 
 abbrev Inv-loop : tie.InvT-loop
-Inv-loop records counts n on₀ own₀ i₀ on own i = (i ≤ n) × (Check.Passed ≡ firstFault (recordingBy records counts) i) × Running (take i (eventsOf records)) on own
+Inv-loop records counts levels n on₀ own₀ i₀ on own i = (i ≤ n) × (Check.Passed ≡ firstFault (recordingBy records counts levels) i) × Running (take i (eventsOf records)) on own
 
 abbrev μ-loop : tie.MeasureT-loop
-μ-loop records counts n on₀ own₀ i₀ on own i = n - i
+μ-loop records counts levels n on₀ own₀ i₀ on own i = n - i
 
 loop-holds : tie.Need-loop-holds Inv-loop μ-loop
 unfolding firstFault
 loop-holds c = (omega arith, refl, start)
 
 record-check-requires : tie.Need-record-check-requires Inv-loop μ-loop
-record-check-requires c κs = let s = c .before .before .before .before .before .before in few (s .args .counts) (s .args .n) (s .pre .1)
+record-check-requires c κs = let s = c .before .before .before .before .before .before .before in few (s .args .counts) (s .args .n) (s .pre .1)
 
 -- the check of record i
 module _ (c : tie.After-record-check Inv-loop μ-loop) where
@@ -36,16 +36,16 @@ module _ (c : tie.After-record-check Inv-loop μ-loop) where
   k = turn .before .before
 
   abbrev s : tie.Start Inv-loop μ-loop
-  s = k .before .before
+  s = k .before .before .before
 
   the-length : length (take (k .loop .i) (eventsOf (s .args .records .now))) ≡ k .loop .i
   the-length = before-length (s .args .records .now) (k .loop .i) (omega arith)
 
-  checked : c .record-check .result ≡ recordCheck (s .args .counts) (take (k .loop .i) (eventsOf (s .args .records .now))) (turn .event-at .result)
+  checked : c .record-check .result ≡ recordCheck (s .args .counts) (levelsBy (s .args .levels .now)) (take (k .loop .i) (eventsOf (s .args .records .now))) (turn .event-at .result)
   checked = c .record-check .ensures _ (k .loop .inv .2) the-length
 
   the-small : c .record-check .result ≡ Check.Passed → Small (turn .event-at .result)
-  the-small e = passed-small _ _ _ (few (s .args .counts) (s .args .n) (s .pre .1)) (sym e ∙ checked)
+  the-small e = passed-small _ _ _ _ (few (s .args .counts) (s .args .n) (s .pre .1)) (sym e ∙ checked)
 
 returns : tie.Need-returns Inv-loop μ-loop
 returns c =
@@ -68,11 +68,11 @@ loop-again c =
     let go = next _ _ _ _ (k r .loop .inv .2) (the-small r e) in (
       omega arith,
       fault-none _ _ _ _ (k r .loop .inv .1) (turn r .event-at .ensures) (checked r) e,
-      rw (before-next (s r .args .records .now) (k r .loop .i) _ (omega arith) (turn r .event-at .ensures), c .note .ensures .0, c .note .ensures .1) go,
+      rw (before-next (s r .args .records .now) (k r .loop .i) _ (omega (arith, s r .pre .0, turn r .before .loop-test .taken)) (turn r .event-at .ensures), c .note .ensures .0, c .note .ensures .1) go,
     )
 
 returns-2 : tie.Need-returns-2 Inv-loop μ-loop
-returns-2 c = let e : c .before .loop .i ≡ c .before .before .before .args .n = omega arith in rw e at (c .before .loop .inv .1)
+returns-2 c = let e : c .before .loop .i ≡ c .before .before .before .before .args .n = omega arith in rw e at (c .before .loop .inv .1)
 
 pub first-fault-spec : {M : Type 1} → statement M
 first-fault-spec =

@@ -17,7 +17,7 @@ returns-2 c before run l =
     rw (passed (kind .before .known-kind .ensures) (kind .if1 .left), failed (c .before .is-named .ensures) (c .if2 .taken), l)
 
 life-kept-requires : tie.Need-life-kept-requires
-life-kept-requires c κs = small _ _ (c .before .before .before .before .pre) (passed (c .before .is-named .ensures) (c .if2 .left))
+life-kept-requires c κs = small _ _ (c .before .before .before .before .before .pre) (passed (c .before .is-named .ensures) (c .if2 .left))
 
 returns-3 : tie.Need-returns-3
 unfolding recordCheck
@@ -27,7 +27,7 @@ returns-3 c before run l =
     rw (passed (kind .before .known-kind .ensures) (kind .if1 .left), passed (name .before .is-named .ensures) (name .if2 .left), failed (c .before .life-kept .ensures before run) (c .if3 .taken), l)
 
 wait-kept-requires : tie.Need-wait-kept-requires
-wait-kept-requires c κs = let name = c .before .before in small _ _ (name .before .before .before .before .pre) (passed (name .before .is-named .ensures) (name .if2 .left))
+wait-kept-requires c κs = let name = c .before .before in small _ _ (name .before .before .before .before .before .pre) (passed (name .before .is-named .ensures) (name .if2 .left))
 
 returns-4 : tie.Need-returns-4
 unfolding recordCheck

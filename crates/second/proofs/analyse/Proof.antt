@@ -7,7 +7,7 @@ use Rattle.second.proofs.analyse.Statement.{statement}
 use Rattle.second.proofs.analyse.Tie as tie
 
 work-fault-requires : tie.Need-work-fault-requires
-work-fault-requires c κs = let r = c .before .before .load .ensures in wider (r .refusal) (lit≤ tt) (r .ranges .events)
+work-fault-requires c κs = let r = c .before .before .before .load .ensures in wider (r .refusal) (lit≤ tt) (r .ranges .events)
 
 -- refusals 1 to 9
 returns : tie.Need-returns
@@ -33,9 +33,11 @@ analyse-spec =
     (tie.spec
     (λ c. search needs)
     (λ c. search needs)
+    (λ c. search needs)
     (λ c κs. search needs)
     work-fault-requires
     returns
+    (λ c. search needs)
     (λ c. search needs)
     (λ c. search needs)
     (λ c κs. search needs)

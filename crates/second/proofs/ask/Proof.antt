@@ -8,7 +8,7 @@ use Rattle.second.proofs.ask.Tie as tie
 
 question-fault-requires : tie.Need-question-fault-requires
 question-fault-requires c κs =
-    let r = c .before .before .load .ensures in
+    let r = c .before .before .before .load .ensures in
     (r .ranges .events, wider (r .refusal) (lit≤ tt) (r .ranges .events))
 
 -- refused
@@ -21,8 +21,8 @@ returns c = (
 -- answered
 returns-2 : tie.Need-returns-2
 returns-2 c =
-    let q = c .before .before .before .before .before .before .before .before .before .before .before .question-fault .ensures in
-    let e = c .before .before .before .before .before .before .before .before .before .if1 .left in (
+    let q = c .before .before .before .before .before .before .before .before .before .before .before .before .question-fault .ensures in
+    let e = c .before .before .before .before .before .before .before .before .before .before .if1 .left in (
       record {
         fault = record { refusal = search needs; noList = λ p. omega arith; events = λ _. q .events e; different = λ _. q .different e };
         least = λ _. omega arith;
@@ -37,11 +37,13 @@ ask-spec =
     (tie.spec
     (λ c. search needs)
     (λ c. search needs)
+    (λ c. search needs)
     (λ c κs. search needs)
     question-fault-requires
     returns
     (λ c. omega (arith, c .before .before .question-fault .ensures .events (c .if1 .left) .0))
     (λ c. omega (arith, c .before .before .question-fault .ensures .events (c .if1 .left) .1))
+    (λ c. search needs)
     (λ c. search needs)
     (λ c. search needs)
     (λ c κs. search needs)

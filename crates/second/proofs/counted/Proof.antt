@@ -1,9 +1,22 @@
--- `second::counted` meets its contract: the records meet their bytes. Assumes nothing.
-use native.Mathlib.Omega.{arith}
-use Rattle.second.proofs.Laws.{trailer-for}
+-- `second::counted` meets its contract: the records are those of the bytes. Assumes nothing.
+use Rattle.second.proofs.Laws.{own-starts}
 use borrow.Author.Needs.{needs}
 use Rattle.second.proofs.counted.Statement.{statement}
 use Rattle.second.proofs.counted.Tie as tie
 
+-- the edition is known
+ranged-requires : tie.Need-ranged-requires
+ranged-requires c κs = (c .before .before .before .unknown .ensures (c .before .before .if1 .left), c .start-bytes .ensures)
+
 pub counted-spec : {M : Type 1} → statement M
-counted-spec = tie.close (tie.spec (λ c κs. search needs) (λ c. search needs) (λ c κs. search needs) (λ c. trailer-for (c .ranged .ensures) (omega arith)))
+counted-spec =
+    tie.close
+    (tie.spec
+    (λ c κs. search needs)
+    (λ c κs. search needs)
+    (λ c. search needs)
+    (λ c κs. search needs)
+    (λ c. search needs)
+    (λ c κs. search needs)
+    ranged-requires
+    (λ c. own-starts (c .ranged .ensures)))

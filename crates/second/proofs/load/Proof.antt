@@ -6,9 +6,31 @@ use Rattle.second.proofs.load.Tie as tie
 returns : tie.Need-returns
 returns c =
     let f = c .before .before .before .before .first-fault .ensures in
-    let h = c .before .before .before .before .before .before .before .read-trailer .ensures in
-    record { refusal = f .refusal; ranges = h .ranges; task = λ e. h .task (f .trailer e); extent = λ e. h .extent (f .trailer e) }
+    let h = c .before .before .before .before .before .before .before .before .before .before .before .before .before .before .before .read-trailer .ensures in
+    let s = h .sound in
+    record {
+      refusal = f .refusal;
+      ranges = s .ranges;
+      starts = s .starts;
+      task = λ e. s .task (f .trailer e);
+      known = λ e. s .known (f .trailer e);
+      extent = λ e. h .extent (f .trailer e);
+    }
 
 pub load-spec : {M : Type 1} → statement M
 load-spec =
-    tie.close (tie.spec (λ c κs. search needs) (λ c κs. search needs) (λ c. search needs) (λ c. search needs) returns)
+    tie.close
+    (tie.spec
+    (λ c κs. search needs)
+    (λ c. search needs)
+    (λ c. search needs)
+    (λ c. search needs)
+    (λ c. search needs)
+    (λ c. search needs)
+    (λ c. search needs)
+    (λ c κs. search needs)
+    (λ c κs. search needs)
+    (λ c. search needs)
+    (λ c. search needs)
+    (λ c. search needs)
+    returns)

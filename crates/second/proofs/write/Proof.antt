@@ -4,6 +4,10 @@ use borrow.Author.Needs.{needs}
 use Rattle.second.proofs.write.Statement.{statement}
 use Rattle.second.proofs.write.Tie as tie
 
+-- what was written had room
+add-t18 : tie.Need-add-t18
+add-t18 c = omega (arith, c .before .before .before .before .before .before .writing-fault .ensures .fits (c .before .before .before .before .if1 .left))
+
 -- written
 returns-2 : tie.Need-returns-2
 returns-2 c =
@@ -19,5 +23,6 @@ write-spec =
     (λ c. search needs)
     (λ c κs. search needs)
     (λ c. search needs)
+    add-t18
     (λ c. search needs)
     returns-2)

@@ -1,68 +1,95 @@
 -- `recording::reading::read` meets its contract. Each return cites the law of the test that led to it. Assumes nothing.
 use native.Mathlib.Omega.{arith}
 use borrow.Author.Needs.{needs}
-use mathlib.Core.Path.{_≡_, sym, ap, _∙_}
+use mathlib.Core.Path.{_≡_, ap, _∙_}
+use mathlib.Core.Bool.{true}
 use mathlib.Core.List.{List}
-use Prim.Native.Nat.{ℕ}
+use Prim.Native.Nat.{ℕ, _+_, _*_}
 use lib.ListN.{length}
-use Rattle.model.specs.Recording.{firstFault}
-use Rattle.model.specs.File.{editionOf, recordingBy}
-use Rattle.model.specs.Reading.{fileCheck}
+use Rattle.model.specs.declared.Trailer.{Trailer}
+use Rattle.model.specs.File.{trailerAt, levelCount}
+use Rattle.model.specs.Reading.{knownEdition, fileCheck}
 use Rattle.rules.proofs.Laws.{passed, failed}
 use Rattle.recording.proofs.Files.{refused-by, accepted-by, too-short, other-edition, no-extent, out-of-range, by-records, part-length}
 use Rattle.recording.proofs.reading.read.Statement.{statement}
 use Rattle.recording.proofs.reading.read.Tie as tie
 
--- after the second test the edition is 1
-edition : (c : tie.Else2) → editionOf (c .before .before .before .before .args .file .now) ≡ 1
-unfolding editionOf
-edition c = sym (c .before .u16-at .ensures) ∙ c .if2 .left
+-- after the second test the edition is known
+module _ (c : tie.Else2) where
+  abbrev trailer : tie.After-trailer-of
+  trailer = c .before .before .before
+
+  abbrev file : List ℕ
+  file = trailer .before .before .before .args .file .now
+
+  abbrev h : Trailer
+  h = trailer .trailer-of .result
+
+  known : knownEdition (h .counts) ≡ true
+  known = passed (c .before .known-edition .ensures) (c .if2 .left)
+
+-- after the third the extent is met
+module _ (c : tie.Else3) where
+  abbrev edition : tie.Else2
+  edition = c .before .before .before .before
+
+  met : h edition .start + 4 * h edition .records + levelCount (h edition .counts) ≡ trailerAt (file edition)
+  met = let n = c .before .before .before .level-count .ensures .0 in let t = c .if3 .left in omega arith
 
 -- after the fourth the file's check is that of its records
-checked : (c : tie.After-first-fault) → fileCheck (c .before .before .before .before .before .before .before .before .before .before .before .before .before .args .file .now) ≡ c .first-fault .result
-checked c =
-    let part = c .before in
-    let ranged = part .before in
-    let met = ranged .before .before .before in
-    let trailer = met .before .before .before in
-    let known = trailer .before in
-    by-records _ (known .before .before .if1 .left) (edition known) _ (trailer .trailer-of .ensures .0) (met .if3 .left)
-    (passed (ranged .before .in-range .ensures) (ranged .if4 .left)) _
-    (c .first-fault .ensures ∙ ap (λ (s : List ℕ). firstFault (recordingBy s (trailer .trailer-of .result .counts)) (trailer .trailer-of .result .records)) (part .records-of .ensures))
+module _ (c : tie.After-first-fault) where
+  abbrev range : tie.Else4
+  range = c .before .before .before
+
+  abbrev extent : tie.Else3
+  extent = range .before .before
+
+  checked : fileCheck (file (edition extent)) ≡ c .first-fault .result
+  checked =
+      let k = edition extent in
+      by-records _ (trailer k .before .if1 .left) _ (trailer k .trailer-of .ensures .0) (known k) (met extent)
+      (passed (range .before .in-range .ensures) (range .if4 .left)) _ _ (c .before .records-of .ensures) (c .before .before .levels-of .ensures) _ (c .first-fault .ensures)
 
 returns : tie.Need-returns
 returns c = refused-by _ _ (too-short _ (c .if1 .taken))
 
 returns-2 : tie.Need-returns-2
-unfolding editionOf
-returns-2 c = refused-by _ _ (other-edition _ (c .before .before .if1 .left) (λ e. c .if2 .taken (c .before .u16-at .ensures ∙ e)))
+returns-2 c =
+    let t = c .before .before .before in
+    refused-by _ _ (other-edition _ (t .before .if1 .left) _ (t .trailer-of .ensures .0) (failed (c .before .known-edition .ensures) (c .if2 .taken)))
 
 returns-3 : tie.Need-returns-3
 returns-3 c =
-    let trailer = c .before .before .before in
-    let known = trailer .before in
-    refused-by _ _ (no-extent _ (known .before .before .if1 .left) (edition known) _ (trailer .trailer-of .ensures .0) (c .if3 .taken))
+    let k = c .before .before .before .before in
+    refused-by _ _
+    (no-extent _ (trailer k .before .if1 .left) _ (trailer k .trailer-of .ensures .0) (known k)
+    (λ e. c .if3 .taken (let n = c .before .before .before .level-count .ensures .0 in omega arith)))
 
 returns-4 : tie.Need-returns-4
 returns-4 c =
-    let met = c .before .before .before in
-    let trailer = met .before .before .before in
-    let known = trailer .before in
+    let x = c .before .before in
+    let k = edition x in
     refused-by _ _
-    (out-of-range _ (known .before .before .if1 .left) (edition known) _ (trailer .trailer-of .ensures .0) (met .if3 .left)
+    (out-of-range _ (trailer k .before .if1 .left) _ (trailer k .trailer-of .ensures .0) (known k) (met x)
     (failed (c .before .in-range .ensures) (c .if4 .taken)))
+
+levels-of-requires : tie.Need-levels-of-requires
+levels-of-requires c κs = omega (arith, met (c .before .before))
+
+records-of-requires : tie.Need-records-of-requires
+records-of-requires c κs = omega (arith, met (c .before .before .before))
 
 first-fault-requires : tie.Need-first-fault-requires
 first-fault-requires c κs =
-    let ranged = c .before in
-    let trailer = ranged .before .before .before .before .before .before in
-    let s = trailer .before .before .before .before .before in
-    (omega (arith, ap length (c .records-of .ensures), part-length (s .args .file .now) (trailer .trailer-of .result) (omega arith)), passed (ranged .before .in-range .ensures) (ranged .if4 .left))
+    let r = c .before .before in
+    let x = r .before .before in
+    let k = edition x in
+    (omega (arith, ap length (c .records-of .ensures), part-length (file k) (h k) (omega (arith, met x))), passed (r .before .in-range .ensures) (r .if4 .left))
 
 returns-5 : tie.Need-returns-5
 returns-5 c =
     let fault = c .before .before in
-    accepted-by _ _ (fault .before .before .before .before .before .before .before .before .trailer-of .ensures .0) (checked fault ∙ c .enum-told .given .1)
+    accepted-by _ _ (trailer (edition (extent fault)) .trailer-of .ensures .0) (checked fault ∙ c .enum-told .given .1)
 
 returns-6 : tie.Need-returns-6
 returns-6 c = refused-by _ _ (checked (c .before .before .before) ∙ c .before .r .given .1)
@@ -73,16 +100,18 @@ read-spec =
     (tie.spec
     returns
     (λ c. omega arith)
-    (λ c. omega arith)
     (λ c κs. omega arith)
+    (λ c κs. search needs)
     returns-2
-    (λ c κs. omega arith)
+    (λ c κs. search needs)
+    (λ c. search needs)
     (λ c. search needs)
     (λ c. search needs)
     returns-3
     (λ c κs. search needs)
     returns-4
-    (λ c κs. search needs)
+    levels-of-requires
+    records-of-requires
     first-fault-requires
     (λ c. search needs)
     (λ c. search needs)

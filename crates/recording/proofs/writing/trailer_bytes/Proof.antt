@@ -1,4 +1,4 @@
--- `recording::writing::trailer` meets its contract. The bytes of the code are those of the definition. Assumes nothing.
+-- `recording::writing::trailer_bytes` meets its contract. The bytes of the code are those of the definition. Assumes nothing.
 use native.Mathlib.Omega.{arith}
 use mathlib.Core.Path.{refl}
 use Rattle.model.specs.Writing.{trailerBytes}
@@ -13,6 +13,8 @@ pub trailer-bytes-spec : {M : Type 1} → statement M
 trailer-bytes-spec =
     tie.close
     (tie.spec
+    (λ c. omega arith)
+    (λ c. omega arith)
     (λ c. omega arith)
     (λ c. omega arith)
     (λ c. omega arith)

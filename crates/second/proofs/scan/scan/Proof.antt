@@ -8,10 +8,10 @@ use Rattle.second.proofs.scan.scan.Statement.{statement}
 use Rattle.second.proofs.scan.scan.Tie as tie
 
 abbrev Inv-loop : tie.InvT-loop
-Inv-loop records h events₀ links₀ state₀ n e₀ events links state e = (length events ≡ length events₀) × (length links ≡ length links₀) × (length state ≡ length state₀)
+Inv-loop records h starts events₀ links₀ state₀ n e₀ events links state e = (length events ≡ length events₀) × (length links ≡ length links₀) × (length state ≡ length state₀)
 
 abbrev μ-loop : tie.MeasureT-loop
-μ-loop records h events₀ links₀ state₀ n e₀ events links state e = n - e
+μ-loop records h starts events₀ links₀ state₀ n e₀ events links state e = n - e
 
 -- a faulty record
 returns : tie.Need-returns Inv-loop μ-loop

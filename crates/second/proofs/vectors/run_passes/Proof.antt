@@ -8,10 +8,10 @@ use Rattle.second.proofs.vectors.run_passes.Statement.{statement}
 use Rattle.second.proofs.vectors.run_passes.Tie as tie
 
 abbrev Inv-loop : tie.InvT-loop
-Inv-loop events links n budget v₀ passes₀ left₀ v passes left = (length v ≡ length v₀) × (passes + left ≡ budget)
+Inv-loop events links starts n budget v₀ passes₀ left₀ v passes left = (length v ≡ length v₀) × (passes + left ≡ budget)
 
 abbrev μ-loop : tie.MeasureT-loop
-μ-loop events links n budget v₀ passes₀ left₀ v passes left = left
+μ-loop events links starts n budget v₀ passes₀ left₀ v passes left = left
 
 -- the last pass was quiet
 returns : tie.Need-returns Inv-loop μ-loop

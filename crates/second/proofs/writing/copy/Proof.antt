@@ -7,10 +7,10 @@ use Rattle.second.proofs.writing.copy.Statement.{statement}
 use Rattle.second.proofs.writing.copy.Tie as tie
 
 abbrev Inv-loop : tie.InvT-loop
-Inv-loop records out₀ i₀ i-end out i = length out ≡ length out₀
+Inv-loop bytes out₀ i₀ i-end out i = length out ≡ length out₀
 
 abbrev μ-loop : tie.MeasureT-loop
-μ-loop records out₀ i₀ i-end out i = i-end - i
+μ-loop bytes out₀ i₀ i-end out i = i-end - i
 
 pub copy-spec : {M : Type 1} → statement M
 copy-spec =

@@ -5,10 +5,10 @@ use Rattle.trial.proofs.tries.try_sizes.Statement.{statement}
 use Rattle.trial.proofs.tries.try_sizes.Tie as tie
 
 abbrev Inv-loop : tie.InvT-loop
-Inv-loop start file budget total₀ which₀ total which = Unit {0}
+Inv-loop start file budget slots total₀ which₀ total which = Unit {0}
 
 abbrev μ-loop : tie.MeasureT-loop
-μ-loop start file budget total₀ which₀ total which = 6 - which
+μ-loop start file budget slots total₀ which₀ total which = 6 - which
 
 pub try-sizes-spec : {M : Type 1} → statement M
 try-sizes-spec =
@@ -16,6 +16,7 @@ try-sizes-spec =
     (tie.spec
     Inv-loop
     μ-loop
+    (λ c κs. tt)
     (λ c. tt)
     (λ c κs. tt)
     (λ c κs. tt)

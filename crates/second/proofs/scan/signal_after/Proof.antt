@@ -1,0 +1,27 @@
+-- `second::scan::signal_after` is safe and ends. Nothing has to hold from turn to turn. The measure is what is left of the range. Assumes nothing.
+use Prim.Native.Nat.{_-_}
+use native.Mathlib.Omega.{arith}
+use Rattle.second.proofs.scan.signal_after.Statement.{statement}
+use Rattle.second.proofs.scan.signal_after.Tie as tie
+
+abbrev Inv-loop : tie.InvT-loop
+Inv-loop events e object skipped left₀ s₀ left s = Unit {0}
+
+abbrev μ-loop : tie.MeasureT-loop
+μ-loop events e object skipped left₀ s₀ left s = e - s
+
+pub signal-after-spec : {M : Type 1} → statement M
+signal-after-spec =
+    tie.close
+    (tie.spec
+    Inv-loop
+    μ-loop
+    (λ c. tt)
+    (λ c κs. tt)
+    (λ c κs. tt)
+    (λ c. tt)
+    (λ c. omega arith)
+    (λ c. omega arith)
+    (λ c. omega arith)
+    (λ c. tt)
+    (λ c. tt))

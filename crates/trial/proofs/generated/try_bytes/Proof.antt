@@ -1,0 +1,27 @@
+-- `trial::generated::try_bytes` is safe and ends. Lengths are kept. The measure is what is left of the range. Assumes nothing.
+use mathlib.Core.Path.{_≡_}
+use lib.ListN.{length}
+use Prim.Native.Nat.{_-_}
+use native.Mathlib.Omega.{arith}
+use Rattle.trial.proofs.generated.try_bytes.Statement.{statement}
+use Rattle.trial.proofs.generated.try_bytes.Tie as tie
+
+abbrev Inv-loop : tie.InvT-loop
+Inv-loop start bytes₀ n total₀ i₀ bytes total i = length bytes ≡ length bytes₀
+
+abbrev μ-loop : tie.MeasureT-loop
+μ-loop start bytes₀ n total₀ i₀ bytes total i = n - i
+
+pub try-bytes-spec : {M : Type 1} → statement M
+try-bytes-spec =
+    tie.close
+    (tie.spec
+    Inv-loop
+    μ-loop
+    (λ c. omega arith)
+    (λ c κs. tt)
+    (λ c. omega arith)
+    (λ c. omega arith)
+    (λ c. omega arith)
+    (λ c. omega arith)
+    (λ c. tt))
