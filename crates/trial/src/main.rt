@@ -67,6 +67,7 @@ fn try_by_hand() {
     worked::try_pairs();
     worked::try_start_rows();
     worked::try_start_waits();
+    worked::try_start_matches();
     worked::try_prints();
     refusals::try_orders();
     refusals::try_sent_orders();
@@ -95,13 +96,13 @@ fn try_edition_one() {
 
 // Recordings of edition 2, with start counts.
 fn try_edition_two() {
-    try_drawn(b"small recordings, edition 2", 2031, 8000, small(2));
-    try_damaged(b"small damaged, edition 2", 2032, 8000, small(2));
+    try_drawn(b"small recordings, edition 2", 2031, 6000, small(2));
+    try_damaged(b"small damaged, edition 2", 2032, 6000, small(2));
     try_changed(b"every byte changed, edition 2", 2038, 60, small(2));
-    try_all_asked(b"questions, edition 2", 2033, 1500, small(2));
-    try_drawn(b"middling recordings, edition 2", 2034, 4000, middling(2));
+    try_all_asked(b"questions, edition 2", 2033, 1000, small(2));
+    try_drawn(b"middling recordings, edition 2", 2034, 3000, middling(2));
     try_damaged(b"middling damaged, edition 2", 2035, 2000, middling(2));
-    try_drawn(b"large recordings, edition 2", 2036, 60, large(2));
+    try_drawn(b"large recordings, edition 2", 2036, 40, large(2));
     try_damaged(b"large damaged, edition 2", 2037, 40, large(2));
     try_chains(b"chains, edition 2", 2, 1, 30);
 }

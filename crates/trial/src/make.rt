@@ -231,10 +231,10 @@ fn set_starts(seed: &mut u32, life: &mut [u16], n: u16) {
     }
 }
 
-fn put_starts(file: &mut [u8], at: u32, life: &[u16], n: u16) {
+fn put_starts(file: &mut [u8], end: u32, life: &[u16], n: u16) {
     for i in 0..n {
-        let start = number(life, STARTS as usize + i as usize);
-        put_byte(file, up_by(at, wide(i)) as usize, (start % 256) as u8);
+        let start = at(life, STARTS, i);
+        put_byte(file, up_by(end, wide(i)) as usize, (start % 256) as u8);
     }
 }
 

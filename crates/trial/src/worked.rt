@@ -122,23 +122,26 @@ fn try_text(
     try_recording(start, s, b"", number, record, text)
 }
 
-// The shape of a recording in edition 2 with these start bytes.
-fn shape_with(tasks: u16, cells: u16, starts: &[u8]) -> Shape {
-    make::empty_shape(tasks, (starts.len() % 65) as u16, cells, 2)
+// A recording in edition 2 with two semaphores of these start counts, and the number and record of its
+// refusal.
+fn try_two(start: u32, first: u8, second: u8, number: u16, record: u16, text: &[u8]) -> u32 {
+    let s = make::empty_shape(1, 2, 0, 2);
+    try_recording(start, s, &[first, second], number, record, text)
 }
 
-// A recording in edition 2 with these start counts, and the number and record of its refusal.
+// A recording in edition 2 with one semaphore of this start count, and the number and record of its
+// refusal.
 fn try_started(
     start: u32,
     tasks: u16,
     cells: u16,
-    starts: &[u8],
+    first: u8,
     number: u16,
     record: u16,
     text: &[u8],
 ) -> u32 {
-    let s = shape_with(tasks, cells, starts);
-    try_recording(start, s, starts, number, record, text)
+    let s = make::empty_shape(tasks, 1, cells, 2);
+    try_recording(start, s, &[first], number, record, text)
 }
 
 // The same, which settles in so many passes and lists these entries, a digit for each number.
@@ -146,14 +149,14 @@ fn try_listed(
     start: u32,
     tasks: u16,
     cells: u16,
-    starts: &[u8],
+    first: u8,
     text: &[u8],
     passes: u32,
     entries: &[u8],
 ) -> u32 {
     let mut bytes = [0u8; 400];
-    let s = shape_with(tasks, cells, starts);
-    let length = put_recording(&mut bytes, s, starts, text);
+    let s = make::empty_shape(tasks, 1, cells, 2);
+    let length = put_recording(&mut bytes, s, &[first], text);
     if 400 < length {
         return start;
     }
@@ -313,72 +316,70 @@ pub(crate) fn try_pairs() {
     say(b"pairs", total);
 }
 
-// The rows of request 1, and rows of document 01 with a start count of 0.
+// The rows of request 1, and B, D and F with a start count of 0.
 pub(crate) fn try_start_rows() {
     let mut total = 0;
-    total = try_listed(total, 2, 1, b"\x00", b"0W0 0S0 1P0 1R0", 2, b"");
-    total = try_listed(total, 2, 1, b"\x01", b"0W0 0S0 1P0 1R0", 1, b"031");
-    total = try_listed(total, 2, 1, b"\x01", b"0W0 0S0 1P0 1P0 1R0", 2, b"");
-    total = try_listed(total, 3, 1, b"\x01", b"0W0 0S0 1S0 2P0 2P0 2R0", 1, b"050");
-    total = try_listed(total, 1, 0, b"\x01", b"0P0", 1, b"");
-    total = try_started(total, 1, 0, b"\x01", 0, 0, b"0P0");
-    total = try_started(total, 1, 0, b"\x01", 8, 1, b"0P0 0P0");
-    // B, D, F
-    total = try_listed(total, 3, 1, b"\x00", b"0W0 0S0 1S0 2P0 2R0", 1, b"040");
-    total = try_listed(total, 3, 1, b"\x00", b"0W0 0S0 1S0 2P0 2P0 2R0", 2, b"");
-    total = try_listed(total, 2, 1, b"\x00", b"1W0 1S0 0P0 0S0 0R0", 2, b"");
+    total = try_listed(total, 2, 1, 0, b"0W0 0S0 1P0 1R0", 2, b"");
+    total = try_listed(total, 2, 1, 1, b"0W0 0S0 1P0 1R0", 1, b"031");
+    total = try_listed(total, 2, 1, 1, b"0W0 0S0 1P0 1P0 1R0", 2, b"");
+    total = try_listed(total, 3, 1, 1, b"0W0 0S0 1S0 2P0 2P0 2R0", 1, b"050");
+    total = try_started(total, 1, 0, 1, 0, 0, b"0P0");
+    total = try_started(total, 1, 0, 1, 8, 1, b"0P0 0P0");
+    total = try_listed(total, 3, 1, 0, b"0W0 0S0 1S0 2P0 2R0", 1, b"040");
+    total = try_listed(total, 3, 1, 0, b"0W0 0S0 1S0 2P0 2P0 2R0", 2, b"");
+    total = try_listed(total, 2, 1, 0, b"1W0 1S0 0P0 0S0 0R0", 2, b"");
     say(b"start rows", total);
 }
 
-// The wait rule with a start count, and matches behind the first waits.
+// The wait rule with a start count.
 pub(crate) fn try_start_waits() {
     let mut total = 0;
-    // no start count
-    total = try_started(total, 1, 0, b"\x00", 8, 0, b"0P0");
+    total = try_started(total, 1, 0, 0, 8, 0, b"0P0");
     // a pool of four
-    total = try_started(total, 1, 0, b"\x04", 0, 0, b"0P0 0P0 0P0 0P0");
-    total = try_started(total, 1, 0, b"\x04", 8, 4, b"0P0 0P0 0P0 0P0 0P0");
-    total = try_started(total, 2, 0, b"\x04", 0, 0, b"0P0 0P0 1P0 0P0 1S0 0P0");
-    total = try_started(total, 1, 0, b"\xFF", 0, 0, b"0P0 0P0 0S0 0P0");
+    total = try_started(total, 1, 0, 4, 0, 0, b"0P0 0P0 0P0 0P0");
+    total = try_started(total, 1, 0, 4, 8, 4, b"0P0 0P0 0P0 0P0 0P0");
+    total = try_started(total, 1, 0, 255, 0, 0, b"0P0 0P0 0S0 0P0");
     // one more by a signal, before or between
-    total = try_started(total, 1, 0, b"\x01", 0, 0, b"0S0 0P0 0P0");
-    total = try_started(total, 1, 0, b"\x01", 8, 3, b"0P0 0S0 0P0 0P0");
-    // another semaphore's start count
-    total = try_started(total, 1, 0, b"\x00\x04", 8, 1, b"0P1 0P0");
-    total = try_started(total, 1, 0, b"\x04\x00", 8, 1, b"0P0 0P1");
-    total = try_started(total, 1, 0, b"\x00\x00\x01", 0, 0, b"0P2");
+    total = try_started(total, 1, 0, 1, 0, 0, b"0S0 0P0 0P0");
+    total = try_started(total, 1, 0, 1, 8, 3, b"0P0 0S0 0P0 0P0");
+    // the other semaphore's start count
+    total = try_two(total, 0, 4, 8, 1, b"0P1 0P0");
+    total = try_two(total, 4, 0, 8, 1, b"0P0 0P1");
+    total = try_two(total, 0, 1, 0, 0, b"0P1");
     // kind, name and life before the wait rule
-    total = try_started(total, 1, 1, b"\x01", 5, 1, b"0W0 0y0 0P0");
-    total = try_started(total, 2, 1, b"\x01", 6, 0, b"0P1");
-    total = try_started(total, 2, 0, b"\x00", 7, 2, b"0F1 0J1 1P0");
-    // the second wait takes the first signal, the third the second
-    total = try_started(total, 4, 1, b"\x01", 0, 0, b"0W0 0S0 1P0 2P0 2R0");
-    total = try_started(
-        total,
-        4,
-        2,
-        b"\x01",
-        0,
-        0,
-        b"0W0 0S0 1W1 1S0 2P0 2P0 2R0 3P0 3R1",
-    );
-    // waits of other tasks, ordered by a fork
-    total = try_started(total, 3, 1, b"\x02", 0, 0, b"0W0 0S0 1P0 1P0 1F2 2P0 2R0");
+    total = try_started(total, 1, 1, 1, 5, 1, b"0W0 0y0 0P0");
+    total = try_started(total, 2, 1, 1, 6, 0, b"0P1");
+    total = try_started(total, 2, 0, 0, 7, 2, b"0F1 0J1 1P0");
     say(b"start counts", total);
 }
 
-// What is printed of a refused recording with one semaphore.
-fn try_line(start: u32, edition: u16, starts: &[u8], text: &[u8], line: &[u8]) -> u32 {
-    try_printed(
-        start,
-        make::empty_shape(1, 1, 0, edition),
-        starts,
-        text,
-        line,
-    )
+// The first waits have no signal, and later ones match from the first signal on.
+pub(crate) fn try_start_matches() {
+    let mut total = 0;
+    // a pool of four, the fifth wait behind a signal
+    total = try_started(total, 2, 0, 4, 0, 0, b"0P0 0P0 1P0 0P0 1S0 0P0");
+    // the second wait takes the first signal
+    total = try_started(total, 3, 1, 1, 0, 0, b"0W0 0S0 1P0 2P0 2R0");
+    // and the third the second
+    total = try_started(total, 4, 2, 1, 0, 0, b"0W0 0S0 1W1 1S0 2P0 2P0 2R0 3P0 3R1");
+    // waits of another task, ordered by a fork
+    total = try_started(total, 3, 1, 2, 0, 0, b"0W0 0S0 1P0 1P0 1F2 2P0 2R0");
+    say(b"start matches", total);
 }
 
-// What is printed: the file of document 01, two recordings with a start count, and refusals.
+// A recording in edition 2 with one semaphore and one cell, and what is printed of it.
+fn try_start_printed(start: u32, tasks: u16, first: u8, text: &[u8], printed: &[u8]) -> u32 {
+    let s = make::empty_shape(tasks, 1, 1, 2);
+    try_printed(start, s, &[first], text, printed)
+}
+
+// A recording of one wait with no start bytes, and the line of its refusal.
+fn try_refused_line(start: u32, edition: u16, line: &[u8]) -> u32 {
+    let s = make::empty_shape(1, 1, 0, edition);
+    try_printed(start, s, b"", b"0P0", line)
+}
+
+// What is printed: the file of document 01, rows of request 1, and refusals.
 pub(crate) fn try_prints() {
     let mut total = 0;
     total = try_printed(
@@ -388,23 +389,23 @@ pub(crate) fn try_prints() {
         b"0W0 0F1 1W0 0R0 0J1 0W0",
         b"events 6 tasks 2 passes 2 settled yes pairs 1\ncell 0 2 3 sure\n",
     );
-    total = try_printed(
+    total = try_start_printed(
         total,
-        make::empty_shape(2, 1, 1, 2),
-        b"\x01",
+        2,
+        1,
         b"0W0 0S0 1P0 1R0",
         b"events 4 tasks 2 passes 1 settled yes pairs 1\ncell 0 0 3 sure\n",
     );
-    total = try_printed(
+    total = try_start_printed(
         total,
-        make::empty_shape(3, 1, 1, 2),
-        b"\x01",
+        3,
+        1,
         b"0W0 0S0 1S0 2P0 2P0 2R0",
         b"events 6 tasks 3 passes 1 settled yes pairs 1\ncell 0 0 5 open\n",
     );
-    total = try_line(total, 1, b"", b"0P0", b"refused 8 0\n");
-    total = try_line(total, 3, b"", b"0P0", b"refused 2 0\n");
-    total = try_line(total, 2, b"", b"0P0", b"refused 3 0\n");
-    total = try_line(total, 2, b"\x01", b"0P0 0P0", b"refused 8 1\n");
+    total = try_start_printed(total, 1, 1, b"0P0 0P0", b"refused 8 1\n");
+    total = try_refused_line(total, 1, b"refused 8 0\n");
+    total = try_refused_line(total, 2, b"refused 3 0\n");
+    total = try_refused_line(total, 3, b"refused 2 0\n");
     say(b"printed", total);
 }

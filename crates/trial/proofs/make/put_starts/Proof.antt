@@ -7,10 +7,10 @@ use Rattle.trial.proofs.make.put_starts.Statement.{statement}
 use Rattle.trial.proofs.make.put_starts.Tie as tie
 
 abbrev Inv-loop : tie.InvT-loop
-Inv-loop file₀ at life n i₀ file i = length file ≡ length file₀
+Inv-loop file₀ end life n i₀ file i = length file ≡ length file₀
 
 abbrev μ-loop : tie.MeasureT-loop
-μ-loop file₀ at life n i₀ file i = n - i
+μ-loop file₀ end life n i₀ file i = n - i
 
 pub put-starts-spec : {M : Type 1} → statement M
 put-starts-spec =
@@ -18,9 +18,6 @@ put-starts-spec =
     (tie.spec
     Inv-loop
     μ-loop
-    (λ c. omega arith)
-    (λ c. omega arith)
-    (λ c. omega arith)
     (λ c. omega arith)
     (λ c κs. tt)
     (λ c κs. tt)
