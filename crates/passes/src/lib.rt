@@ -26,6 +26,9 @@ use model::MOST_SEMAPHORES;
 use model::SIGNAL;
 use model::WAIT;
 
+// A place for each semaphore.
+const SEMAPHORES: usize = MOST_SEMAPHORES as usize;
+
 // How many passes were made, and whether the last one was quiet.
 pub struct Outcome {
     pub passes: u32,
@@ -370,9 +373,6 @@ pub fn run(
     start(records, counts, positions, v);
     passes(records, counts, levels, positions, before, budget, v)
 }
-
-// A place for each semaphore.
-const SEMAPHORES: usize = MOST_SEMAPHORES as usize;
 
 // The signal that event e is matched with. The first waits on a semaphore, as many as its start count, have none, and
 // `unmatched` counts them; a later one has the signal at hand, and then the next one is at hand.
