@@ -16,7 +16,7 @@ use Rattle.model.specs.Passes.{sources, gathered, signalsOn}
 abbrev pub waitsBefore : List Event → ℕ → ℕ
 waitsBefore l e = tally (λ w. isWait (eventIn l e .object) (eventIn l w)) e
 
--- the first waits on a semaphore, as many as its start count, have no signal; later ones match from the first signal on
+-- the signal of a wait e on a semaphore with the start count n: the first n waits have none, later ones match from the first signal on
 abbrev pub matchAfter : ℕ → List Event → ℕ → Found
 matchAfter n l e = cond (ltb (waitsBefore l e) n) Found.Nothing (nth (signalsOn l (eventIn l e .object)) (waitsBefore l e - n))
 

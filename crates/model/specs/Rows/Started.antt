@@ -9,7 +9,7 @@ use Rattle.model.specs.Rows.Starred.{of, W, R, S, P, Analyses, Accepts, 
 use Rattle.model.specs.Rows.Faults.{trailer}
 use Rattle.model.specs.Rows.Raised.{two, three, Records}
 
--- a file of edition 2 with t tasks and c cells, and a semaphore for each of these start counts
+-- a file of edition 2 with t tasks, s semaphores and c cells, and the start bytes b
 abbrev pub pool : ℕ → ℕ → ℕ → List ℕ → List ℕ → List ℕ
 pool t s c b l = fileOf l (record { tasks = t; semaphores = s; cells = c; edition = 2 }) b
 
