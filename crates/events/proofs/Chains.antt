@@ -1,4 +1,4 @@
--- Laws of the chains: how they start and go on by one event, and that they go by the test alone. Assumes nothing.
+-- Laws of the chains: how they start and go on by one place, and that they go by the test alone. Assumes nothing.
 use mathlib.Core.Path.{_≡_, refl, sym, _∙_}
 use mathlib.Core.Bool.{Bool, true, false, _&&_, _||_, true≢false}
 use mathlib.Core.Logic.{⊎-elim}
@@ -10,7 +10,7 @@ use lib.ListN.{getD, set, replicate, length-set, length-replicate, getD-replicat
 use lib.Seq.{getD-set-same, getD-set-other}
 use Rattle.model.specs.declared.Event.{Event}
 use Rattle.model.proofs.Tests.{cases, tests, clash, fails, both, second, either, all-three, leb-true, leb-false, ltb-true, ltb-false, eqb-true, le-leb, eq-eqb}
-use Rattle.events.specs.Chains.{isAmong, Nearest, head, Chained}
+use Rattle.events.specs.Chains.{isAmong, Nearest, head, joined, leftOut, linked, Chained}
 
 -- over no event yet
 pub start : (p : ℕ → ℕ → Bool) (n k : ℕ) → k ≤ 1024 → Chained p n k n (replicate 2048 n)
@@ -43,28 +43,25 @@ module _ (p : ℕ → ℕ → Bool) (n k e : ℕ) (chain : List ℕ) (c : Chaine
 
   -- an event that stands in the chain of y, and in no other
   module _ (y : ℕ) (l : y < k) (f : k ≤ 1024) (g : n ≤ 1024) (w : e < n) (h : p y e ≡ true) (only : (x : ℕ) → p x e ≡ true → x ≡ y) where
-    abbrev joined : List ℕ
-    joined = set (set chain e (getD chain (head y) 0)) (head y) e
-
-    at-head : getD joined (head y) 0 ≡ e
+    at-head : getD (joined y e chain) (head y) 0 ≡ e
     at-head = getD-set-same (set chain e (getD chain (head y) 0)) (head y) e 0 (omega (arith, length-set chain e (getD chain (head y) 0), c .wide))
 
     -- places behind those of the events
-    at-others : (x : ℕ) → (x ≡ y → ⊥) → getD joined (head x) 0 ≡ getD chain (head x) 0
+    at-others : (x : ℕ) → (x ≡ y → ⊥) → getD (joined y e chain) (head x) 0 ≡ getD chain (head x) 0
     at-others x o =
         getD-set-other (set chain e (getD chain (head y) 0)) (head y) (head x) e 0 (λ q. o (omega arith))
         ∙ getD-set-other chain e (head x) (getD chain (head y) 0) 0 (λ q. omega arith)
 
-    at-event : (a : ℕ) → a < 1024 → getD joined a 0 ≡ getD (set chain e (getD chain (head y) 0)) a 0
+    at-event : (a : ℕ) → a < 1024 → getD (joined y e chain) a 0 ≡ getD (set chain e (getD chain (head y) 0)) a 0
     at-event a m = getD-set-other (set chain e (getD chain (head y) 0)) (head y) a e 0 (λ q. omega arith)
 
-    head-next : (x : ℕ) → x < k → Nearest (p x) n e (getD joined (head x) 0)
+    head-next : (x : ℕ) → x < k → Nearest (p x) n e (getD (joined y e chain) (head x) 0)
     head-next x m =
         cases (eqb x y)
         (λ t. let q : x ≡ y = omega tests in rw (q, at-head) (record { low = omega arith; high = omega arith; passed = λ i a b. absurd (omega arith); hit = λ _. h }))
         (λ t. rw (at-others x (λ q. omega tests)) (nearest-more (p x) n e (getD chain (head x) 0) (fails (p x e) (λ u. let q = only x u in omega tests)) (c .heads x m)))
 
-    link-next : (a x : ℕ) → e ≤ a → a < n → x < k → p x a ≡ true → Nearest (p x) n (a + 1) (getD joined a 0)
+    link-next : (a x : ℕ) → e ≤ a → a < n → x < k → p x a ≡ true → Nearest (p x) n (a + 1) (getD (joined y e chain) a 0)
     link-next a x m r o t =
         cases (eqb a e)
         (λ u.
@@ -73,7 +70,7 @@ module _ (p : ℕ → ℕ → Bool) (n k e : ℕ) (chain : List ℕ) (c : Chaine
         rw (at-event a (omega arith), q, z, getD-set-same chain e (getD chain (head y) 0) 0 (omega (arith, c .wide))) (c .heads y l))
         (λ u. rw (at-event a (omega arith), getD-set-other chain e a (getD chain (head y) 0) 0 (λ q. omega tests)) (c .links a x (omega tests) r o t))
 
-    pub next-joined : Chained p n k e joined
+    pub next-joined : Chained p n k e (joined y e chain)
     next-joined =
         record {
           wide = length-set (set chain e (getD chain (head y) 0)) (head y) e ∙ length-set chain e (getD chain (head y) 0) ∙ c .wide;
@@ -100,10 +97,7 @@ or-none true b h = absurd (true≢false h)
 or-none false b h = (refl, h)
 
 module _ (lo hi k : ℕ) (v : Event) where
-  abbrev beside : Bool
-  beside = ltb (v .kind) lo || ltb hi (v .kind) || leb k (v .object)
-
-  pub outside : beside ≡ true → (x : ℕ) → x < k → isAmong lo hi x v ≡ false
+  outside : leftOut lo hi k v ≡ true → (x : ℕ) → x < k → isAmong lo hi x v ≡ false
   outside h x l =
       fails (isAmong lo hi x v) λ t.
       let q = all-three (leb lo (v .kind)) (leb (v .kind) hi) (eqb (v .object) x) t in
@@ -115,7 +109,7 @@ module _ (lo hi k : ℕ) (v : Event) where
       (λ u. let z = leb-true k (v .object) u in omega arith)
       (either (ltb (v .kind) lo || ltb hi (v .kind)) (leb k (v .object)) h)
 
-  pub within : beside ≡ false → (v .object < k) × (isAmong lo hi (v .object) v ≡ true)
+  pub within : leftOut lo hi k v ≡ false → (v .object < k) × (isAmong lo hi (v .object) v ≡ true)
   within h =
       let q = or-none (ltb (v .kind) lo || ltb hi (v .kind)) (leb k (v .object)) h in
       let r = or-none (ltb (v .kind) lo) (ltb hi (v .kind)) (q .0) in (
@@ -123,5 +117,15 @@ module _ (lo hi k : ℕ) (v : Event) where
         both (both (le-leb lo (v .kind) (ltb-false (v .kind) lo (r .0))) (le-leb (v .kind) hi (ltb-false hi (v .kind) (r .1)))) (eq-eqb (v .object) (v .object) refl),
       )
 
-  pub alone : (x : ℕ) → isAmong lo hi x v ≡ true → x ≡ v .object
+  alone : (x : ℕ) → isAmong lo hi x v ≡ true → x ≡ v .object
   alone x t = sym (eqb-true (v .object) x (second (leb lo (v .kind) && leb (v .kind) hi) (eqb (v .object) x) t))
+
+  -- one place more, that of the event v
+  pub linked-next : (p : ℕ → ℕ → Bool) (n e : ℕ) (chain : List ℕ) → Chained p n k (e + 1) chain → ((x : ℕ) → p x e ≡ isAmong lo hi x v)
+      → k ≤ 1024 → n ≤ 1024 → e < n → Chained p n k e (linked lo hi k v e chain)
+  unfolding linked
+  linked-next p n e chain c same f g w =
+      cases (leftOut lo hi k v) (λ t. rw t (next-none p n k e chain c (λ x l. same x ∙ outside t x l)))
+      (λ t.
+      let (l, h) = within t in
+      rw t (next-joined p n k e chain c (v .object) l f g w (same (v .object) ∙ h) (λ x q. alone x (sym (same x) ∙ q))))

@@ -8,6 +8,7 @@ use lib.Dec.{ltb}
 use lib.ListN.{length, getD}
 use Rattle.model.specs.declared.Event.{Event}
 use Rattle.model.specs.declared.Found.{Found}
+use Rattle.model.specs.Recording.{eventIn}
 use Rattle.model.specs.Vectors.{position}
 use Rattle.model.specs.Passes.{beforeOrFork}
 
@@ -28,3 +29,7 @@ foundBelow n a = cond (ltb a n) (Found.At a) Found.Nothing
 -- the event before each event in its task, or for the first event of a task the fork
 pub record Before (l : List Event) (kept : List ℕ) : Type 0 where
   pub before : (e : ℕ) → e < length l → foundBelow (length l) (getD kept e 0) ≡ beforeOrFork l e
+
+-- each event is of a task below k
+abbrev pub Tasked : List Event → ℕ → Type 0
+Tasked l k = (e : ℕ) → e < length l → eventIn l e .task < k

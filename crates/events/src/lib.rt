@@ -2,14 +2,16 @@
 // of each: positions, the event before, and chains of the events on one object. And the level bytes: start counts.
 ghost use mathlib.Core.Path.{_≡_};
 ghost use Prim.Native.Nat.{_+_, _*_, _/_, _≤_, _<_};
-ghost use lib.ListN.{length};
+ghost use lib.ListN.{length, getD, take};
+ghost use lib.Seq.{sets};
 ghost use Rattle.model.specs.Numbers.{lastOf};
 ghost use Rattle.model.specs.Recording.{startOf, eventIn, ofTask, isOn};
 ghost use Rattle.model.specs.File.{u16At, eventsOf, recordBytes, levelCount, levelBytes, levelsBy};
-ghost use Rattle.model.specs.Reading.{mostCells, mostEvents};
+ghost use Rattle.model.specs.Reading.{mostTasks, mostCells, mostEvents};
 ghost use Rattle.model.specs.Passes.{beforeOrFork};
-ghost use Rattle.events.specs.Chains.{among, Chained};
-ghost use Rattle.events.specs.Kept.{Positions, Below, foundBelow, Before};
+ghost use Rattle.model.specs.Pairs.{ownEvents, taskOrder};
+ghost use Rattle.events.specs.Chains.{among, amongIn, byTask, Along, joined, linked, Chained};
+ghost use Rattle.events.specs.Kept.{Positions, Below, foundBelow, Before, Tasked};
 use model::Counts;
 use model::Event;
 use model::FORK;
@@ -192,19 +194,26 @@ pub fn before_each(records: &[u8]) -> [u16; MOST_EVENTS]
 // How long chains are: a place for each event, then one for each object.
 pub const CHAINS: usize = 2048;
 
-// Puts event e first in the chain of its object, where its kind is one of lo to hi and its object is below `limit`.
-fn link(records: &[u8], lo: u8, hi: u8, limit: u16, e: usize, chain: &mut [u16; CHAINS])
-    requires { ⌜ (4 * e + 3 < length (now records)) × (length (now records) ≤ 4 * mostEvents) × (limit ≤ mostCells) ⌝ }
-    requires { ⌜ Chained (among (now records) lo hi) (length (now records) / 4) limit (e + 1) (now chain) ⌝ }
-    ensures { λ _. ⌜ Chained (among (now (records .entry)) lo hi) (length (now (records .entry)) / 4) limit e (now (chain .exit)) ⌝ }
+// Puts place i first in the chain of object x.
+fn put_first(chain: &mut [u16; CHAINS], x: u16, i: usize)
+    requires { ⌜ (x < mostCells) × (i < mostEvents) ⌝ }
+    ensures { λ _. ⌜ now (chain .exit) ≡ joined x i (now (chain .entry)) ⌝ }
 {
-    let v = event_at(records, e);
+    let head = MOST_EVENTS + (x as usize);
+    chain[i] = chain[head];
+    chain[head] = i as u16;
+}
+
+// Puts place i, that of the event v, first in the chain of its object, where its kind is one of lo to hi and its object is
+// below `limit`.
+fn link(v: Event, lo: u8, hi: u8, limit: u16, i: usize, chain: &mut [u16; CHAINS])
+    requires { ⌜ (limit ≤ mostCells) × (i < mostEvents) ⌝ }
+    ensures { λ _. ⌜ now (chain .exit) ≡ linked lo hi limit v i (now (chain .entry)) ⌝ }
+{
     if (v.kind < lo) | (hi < v.kind) | (limit <= v.object) {
         return;
     }
-    let head = MOST_EVENTS + (v.object as usize);
-    chain[e] = chain[head];
-    chain[head] = e as u16;
+    put_first(chain, v.object, i);
 }
 
 // Gathers the events of the kinds lo to hi in a chain for each object below `limit`, from the last event to the first.
@@ -217,7 +226,86 @@ pub fn gather(records: &[u8], lo: u8, hi: u8, limit: u16) -> [u16; CHAINS]
     let mut chain = [none; CHAINS];
     while 0 < e {
         e -= 1;
-        link(records, lo, hi, limit, e, &mut chain);
+        link(event_at(records, e), lo, hi, limit, e, &mut chain);
     }
     chain
+}
+
+// The event at place i of an order.
+pub fn at_place(order: &[u16], i: usize) -> usize
+    requires { ⌜ i < length (now order) ⌝ }
+    ensures { λ r. ⌜ r ≡ getD (now (order .entry)) i 0 ⌝ }
+{
+    order[i] as usize
+}
+
+// The same along an order of the events: the chains are of places in it.
+pub fn gather_in(records: &[u8], order: &[u16], lo: u8, hi: u8, limit: u16) -> [u16; CHAINS]
+    requires { ⌜ Along (now records) (now order) × (limit ≤ mostCells) ⌝ }
+    ensures { λ r. ⌜ Chained (amongIn (now (records .entry)) (now (order .entry)) lo hi) (length (now (order .entry))) limit 0 r ⌝ }
+{
+    let mut i = order.len();
+    let none = i as u16;
+    let mut chain = [none; CHAINS];
+    while 0 < i {
+        i -= 1;
+        let v = event_at(records, at_place(order, i));
+        link(v, lo, hi, limit, i, &mut chain);
+    }
+    chain
+}
+
+// Gathers the events of each task, which is a byte, in a chain.
+fn gather_tasks(records: &[u8]) -> [u16; CHAINS]
+    requires { ⌜ length (now records) ≤ 4 * mostEvents ⌝ }
+    ensures { λ r. ⌜ Chained (byTask (now (records .entry))) (length (now (records .entry)) / 4) 256 0 r ⌝ }
+{
+    let mut e = records.len() / 4;
+    let none = e as u16;
+    let mut chain = [none; CHAINS];
+    while 0 < e {
+        e -= 1;
+        put_first(&mut chain, records[4 * e] as u16, e);
+    }
+    chain
+}
+
+// Puts the events of a task into the order from place `at` on. Answers the place after them.
+fn put_task(
+    records: &[u8],
+    chain: &[u16; CHAINS],
+    task: u16,
+    order: &mut [u16; MOST_EVENTS],
+    at: usize,
+) -> usize
+    requires { ⌜ Chained (byTask (now records)) (length (now records) / 4) 256 0 (now chain) × (length (now records) ≤ 4 * mostEvents) × (task < 256) ⌝ }
+    requires { ⌜ at + length (ownEvents (eventsOf (now records)) task) ≤ mostEvents ⌝ }
+    ensures { λ r. ⌜ now (order .exit) ≡ sets (now (order .entry)) at (ownEvents (eventsOf (now (records .entry))) task) ⌝ }
+    ensures { λ r. ⌜ r ≡ at + length (ownEvents (eventsOf (now (records .entry))) task) ⌝ }
+{
+    let n = records.len() / 4;
+    let mut next = at;
+    let mut e = chain[MOST_EVENTS + (task as usize)] as usize;
+    while e < n {
+        order[next] = e as u16;
+        next += 1;
+        e = chain[e] as usize;
+    }
+    next
+}
+
+// The events in task order: by task, and within a task in file order.
+pub fn task_order(records: &[u8], tasks: u16) -> [u16; MOST_EVENTS]
+    requires { ⌜ (length (now records) ≤ 4 * mostEvents) × (tasks ≤ mostTasks) × Tasked (eventsOf (now records)) tasks ⌝ }
+    ensures { λ r. ⌜ take (length (now (records .entry)) / 4) r ≡ taskOrder (eventsOf (now (records .entry))) tasks ⌝ }
+{
+    let chain = gather_tasks(records);
+    let mut order = [0u16; MOST_EVENTS];
+    let mut at = 0;
+    let mut task: u16 = 0;
+    while task < tasks {
+        at = put_task(records, &chain, task, &mut order, at);
+        task += 1;
+    }
+    order
 }

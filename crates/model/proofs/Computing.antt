@@ -2,17 +2,17 @@
 -- Assumes nothing.
 use mathlib.Core.Path.{refl}
 use Rattle.model.specs.declared.Refusal.{Refusal}
-use Rattle.model.specs.Numbers.{sum, count, filter, listFrom, each, picked, lastOf, nth, largest, insert, sort, kthLeast}
+use Rattle.model.specs.Numbers.{sum, count, filter, listFrom, each, flatMap, flatMapTails, picked, lastOf, nth, largest, insert, sort, kthLeast}
 use Rattle.model.specs.Refusals.{numberOf, recordOf, pairsOf}
 use Rattle.model.specs.Recording.{waitKept, lifeKept, classOf, knownKind, named, recordCheck, firstFault}
 use Rattle.model.specs.File.{u16At, u32At, eventAt, eventsOf, trailerOf, recordBytes, levelCount, levelBytes, recordingOf}
 use Rattle.model.specs.Reading.{knownEdition, extentMet, inRange, fileCheck, readingOf, preambleOf, recordsOf, startsOf}
 use Rattle.model.specs.Walking.{stepAt}
-use Rattle.model.specs.Orders.{place}
+use Rattle.model.specs.Orders.{place, fileOrder}
 use Rattle.model.specs.Vectors.{position, flat, start, ordered, unordered}
 use Rattle.model.specs.Passes.{sources, gathered, stepOne, signalsOn, waitsOn, needed, candidates, served, raised, passTo, pass, further, run}
 use Rattle.model.specs.Recorded.{matched, recordedTo, recorded}
-use Rattle.model.specs.Pairs.{conflict, racePair, mark, entriesOf, cellEntries, entries, listed, entryNumbers}
+use Rattle.model.specs.Pairs.{conflict, racePair, mark, entriesOf, cellEntries, entriesIn, taskOrder, entries, listed, entryNumbers}
 use Rattle.model.specs.Analysing.{filled, workCheck, analysisCheck, analysisOf, workAfterAnalysing, listAfterAnalysing}
 use Rattle.model.specs.Question.{relationOf, questionCheck, answerOf, workAfterAsking}
 use Rattle.model.specs.Writing.{trailerBytes, fileOf, startsFit, recordsCheck, writingCheck, writtenOf, outAfterWriting}
@@ -25,11 +25,11 @@ unfolding sum count listFrom each waitKept lifeKept classOf knownKind named reco
 reading = tt
 
 vectors : Unit {0}
-unfolding place filter picked lastOf nth largest insert sort kthLeast position flat start ordered unordered sources gathered stepOne signalsOn waitsOn needed candidates served raised passTo pass further run matched recordedTo recorded
+unfolding place fileOrder filter flatMap flatMapTails picked lastOf nth largest insert sort kthLeast position flat start ordered unordered sources gathered stepOne signalsOn waitsOn needed candidates served raised passTo pass further run matched recordedTo recorded
 vectors = tt
 
 calls : Unit {0}
-unfolding conflict racePair mark entriesOf cellEntries entries listed entryNumbers filled workCheck analysisCheck analysisOf workAfterAnalysing listAfterAnalysing relationOf questionCheck answerOf workAfterAsking trailerBytes fileOf startsFit recordsCheck writingCheck writtenOf outAfterWriting
+unfolding conflict racePair mark entriesOf cellEntries entriesIn taskOrder entries listed entryNumbers filled workCheck analysisCheck analysisOf workAfterAnalysing listAfterAnalysing relationOf questionCheck answerOf workAfterAsking trailerBytes fileOf startsFit recordsCheck writingCheck writtenOf outAfterWriting
 calls = tt
 
 printing : Unit {0}

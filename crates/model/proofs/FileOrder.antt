@@ -3,7 +3,7 @@
 use Prim.Native.Nat.{ℕ, zero, suc, _≤_, _<_}
 use mathlib.Core.Path.{_≡_, refl, sym, ap, subst, _∙_}
 use mathlib.Core.Bool.{true}
-use mathlib.Core.List.{List, [], _∷_, _++_, map}
+use mathlib.Core.List.{List, [], _∷_, _++_, map, List·Memᴰ}
 use native.Mathlib.Nat.{le-refl}
 use lib.Dec.{ltb}
 use native.Mathlib.Omega.{arith}
@@ -12,15 +12,11 @@ use lib.Seq.{take-suc, take-length}
 use Rattle.model.specs.declared.Event.{Event}
 use Rattle.model.specs.Numbers.{each, picked}
 use Rattle.model.specs.Recording.{event, noEvent, Accepted, Recording, size}
-use Rattle.model.specs.Orders.{place, Obeying, Precedes, rearranged, Admissible}
+use Rattle.model.specs.Orders.{place, Obeying, Precedes, fileOrder, rearranged, Admissible}
 use Rattle.model.proofs.Tests.{cases, clash, fails, compared, lt-ltb, ltb-true}
 use Rattle.model.proofs.Rules.{sooner}
-use Rattle.model.proofs.Picked.{picked-occurs, picked-rises}
+use Rattle.model.proofs.Picked.{picked-occurs, picked-rises, picked-mem, picked-in}
 use Rattle.model.proofs.Accept.{accepted-obeys}
-
--- the order of the file itself
-unfoldable pub fileOrder : Recording → List ℕ
-fileOrder E = picked (λ e. true) (size E)
 
 pub map-append : {A B : Type 0} (g : A → B) (l m : List A) → map g (l ++ m) ≡ map g l ++ map g m
 map-append g [] m = refl
@@ -32,6 +28,14 @@ file-records E zero h = refl
 file-records E (suc n) h =
     map-append (event E) (picked (λ e. true) n) (n ∷ [])
     ∙ ap (λ (l : List Event). l ++ (event E n ∷ [])) (file-records E n (omega arith)) ∙ sym (take-suc (E .events) n noEvent h)
+
+pub file-of : (E : Recording) (e : ℕ) → List·Memᴰ e (fileOrder E) → e < size E
+unfolding fileOrder
+file-of E e m = picked-mem (λ e. true) e (size E) m .0
+
+pub file-in : (E : Recording) (e : ℕ) → e < size E → List·Memᴰ e (fileOrder E)
+unfolding fileOrder
+file-in E e l = picked-in (λ e. true) e (size E) l refl
 
 pub file-precedes : (E : Recording) (a b : ℕ) → a < b → b < size E → Precedes (fileOrder E) a b
 unfolding fileOrder

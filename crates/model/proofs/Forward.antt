@@ -11,7 +11,7 @@ use lib.Dec.{leb, ltb, eqb}
 use Rattle.model.specs.declared.Event.{Event}
 use Rattle.model.specs.Numbers.{bit, tally, count, picked}
 use Rattle.model.specs.Recording.{startOf, event, ofTask, isSignal, isWait, isFork, isJoin, notJoined, forkKept, joinKept, waitKept, lifeKept, obeys, Accepted, Recording, size, taskOf, kindOf, objectOf, fork, join, wait}
-use Rattle.model.specs.Orders.{place, Precedes, occurrences, Admissible}
+use Rattle.model.specs.Orders.{place, Precedes, occurrences, Admissible, fileOrder}
 use Rattle.model.specs.Vectors.{Vectors}
 use Rattle.model.specs.Passes.{previous, sources}
 use Rattle.model.specs.Recorded.{matched, recorded}
@@ -20,7 +20,7 @@ use Rattle.model.proofs.Sum.{tally-zero, tally-has, tally-lt, tally-inj
 use Rattle.model.proofs.Picked.{parted-once, parted-first, parted-rises}
 use Rattle.model.proofs.Rules.{sooner, earlier, count-earlier, obeying-by, kind-is, object-is, fork-other, join-other, fork-first, join-last, join-forked, one-fork, one-join}
 use Rattle.model.proofs.Sources.{last-some, last-found, in-found, has-previous, has-fork, has-join-fork, has-join-end, fork-found}
-use Rattle.model.proofs.FileOrder.{fileOrder, file-admissible, file-lower}
+use Rattle.model.proofs.FileOrder.{file-admissible, file-lower}
 use Rattle.model.proofs.Recorded.{upTo, matched-wait, matched-found, matched-lower, up-self, up-own, up-cause}
 
 -- the events at or before x first, then the others, each in the order of the file

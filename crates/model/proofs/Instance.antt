@@ -12,7 +12,7 @@ use Rattle.model.specs.Rows.Instance.{Instance}
 use Rattle.model.proofs.Computing.{rows}
 
 sure : Entry
-sure = record { first = 2; second = 3; mark = 1 }
+sure = record { first = 3; second = 2; mark = 1 }
 
 one-entry : listed (recordingOf G) 37 ≡ sure ∷ []
 unfolding rows sure
@@ -34,5 +34,5 @@ instance =
     either m (inr k) = inr (List·Memᴰ·eq-of-singleton (subst (List·Memᴰ _) one-entry k))
 
     other : (m : ℕ) → (record { first = 0; second = 2; mark = m } ≡ sure) ⊎ (record { first = 2; second = 0; mark = m } ≡ sure) → ⊥
-    other m (inl q) = let z : _≡_ {A = ℕ} 0 2 = ap (λ (p : Entry). p .first) q in omega arith
-    other m (inr q) = let z : _≡_ {A = ℕ} 0 3 = ap (λ (p : Entry). p .second) q in omega arith
+    other m (inl q) = let z : _≡_ {A = ℕ} 0 3 = ap (λ (p : Entry). p .first) q in omega arith
+    other m (inr q) = let z : _≡_ {A = ℕ} 0 2 = ap (λ (p : Entry). p .second) q in omega arith

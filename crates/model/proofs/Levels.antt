@@ -7,7 +7,7 @@ use Rattle.model.specs.declared.Counts.{Counts}
 use Rattle.model.specs.File.{recordingBy}
 use Rattle.model.specs.Vectors.{Vectors, start}
 use Rattle.model.specs.Passes.{gathered, stepOne}
-use Rattle.model.specs.Pairs.{racePair, mark, entriesOf, cellEntries, entries}
+use Rattle.model.specs.Pairs.{racePair, mark, entriesOf, cellEntries, entriesIn, taskOrder, entries}
 
 module _ (s : List ℕ) (c : Counts) (b : List ℕ) where
   pub start-levels : start (recordingBy s c []) ≡ start (recordingBy s c b)
@@ -19,5 +19,5 @@ module _ (s : List ℕ) (c : Counts) (b : List ℕ) where
   step-one-levels X e = refl
 
   pub entries-levels : (X R : Vectors) → entries (recordingBy s c []) X R ≡ entries (recordingBy s c b) X R
-  unfolding entries cellEntries entriesOf racePair mark
+  unfolding entries entriesIn taskOrder cellEntries entriesOf racePair mark
   entries-levels X R = refl

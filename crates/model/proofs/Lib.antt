@@ -4,6 +4,8 @@ pub mod Sum
 pub mod Counting
 pub mod Least
 pub mod Lists
+pub mod Each
+pub mod Stores
 pub mod Place
 pub mod Picked
 pub mod Rules
@@ -17,12 +19,15 @@ pub mod Rise
 pub mod Settle
 pub mod Recorded
 pub mod Forward
+pub mod TaskOrder
 pub mod Listed
 pub mod Levels
 pub mod Files
 pub mod Acceptable
 pub mod Promise
 pub mod Questions
+pub mod SamePairs
+pub mod Ascending
 pub mod Uncut
 pub mod RoundTrip
 pub mod Editions

@@ -1,119 +1,26 @@
 -- What stands on the list, and that a larger budget leaves no more on it.
 -- Assumes nothing.
-use Prim.Native.Nat.{ℕ, zero, suc, _*_, _<_}
-use mathlib.Core.Path.{_≡_, refl, sym, ap, subst, _∙_}
+use Prim.Native.Nat.{ℕ, _*_, _<_}
+use mathlib.Core.Path.{_≡_, refl, sym, ap, subst, subst₂, _∙_}
 use mathlib.Core.Logic.{_⊎_, inl, inr}
-use mathlib.Core.Bool.{Bool, true, false, cond, not, and-comm, or-comm}
-use mathlib.Core.List.{List, [], _∷_, List·Memᴰ, List·Memᴰ·head, List·Memᴰ·not-nil, List·Memᴰ·eq-of-singleton, List·Memᴰ·append-cases, Memᴰ·append-left, Memᴰ·append-right}
-use native.Mathlib.Nat.{le-refl, le-trans, not-suc-le-zero}
+use mathlib.Core.Bool.{Bool, true, false, not, _&&_, _||_, and-comm, or-comm}
+use mathlib.Core.List.{List, [], _∷_, List·Memᴰ, List·Memᴰ·head, List·Memᴰ·tail, List·Memᴰ·not-nil, List·Memᴰ·eq-of-singleton, List·Memᴰ·append-cases, Memᴰ·append-left, Memᴰ·append-right}
+use native.Mathlib.Nat.{le-trans}
 use native.Mathlib.Omega.{arith}
-use lib.Dec.{ltb, eqb}
+use lib.Dec.{eqb}
 use lib.ListN.{length}
 use Rattle.model.specs.declared.Event.{Event}
 use Rattle.model.specs.declared.Counts.{Counts}
-use Rattle.model.specs.Numbers.{each}
-use Rattle.model.specs.Recording.{Recording, size, cells, event, taskOf, objectOf, classOf, namesOf, read, write}
+use Rattle.model.specs.Numbers.{flatMapTails}
+use Rattle.model.specs.Recording.{Recording, cells, event, taskOf, objectOf, classOf, namesOf, read, write}
 use Rattle.model.specs.Vectors.{Vectors, number, position, ordered, unordered}
-use Rattle.model.specs.Pairs.{isAccess, isWrite, conflict, racePair, Entry, entry, entriesOf, cellEntries, entries, entryNumbers}
+use Rattle.model.specs.Pairs.{isAccess, isWrite, conflict, racePair, mark, Entry, entry, entriesOf, rowAt, cellEntries, entriesIn, Among, entryNumbers}
 use Rattle.model.specs.Rows.Conflicts.{Symmetric}
-use Rattle.model.proofs.Tests.{cases, clash, fails, of-not, to-not, both, first, second, all-three, either, last-or-lower, le-leb, leb-true, ltb-true, eqb-true, eqb-false, eq-eqb, ne-eqb}
+use Rattle.model.proofs.Tests.{clash, fails, of-not, to-not, both, first, second, all-three, either, le-leb, leb-true, eqb-true, eqb-false, eq-eqb, eqb-turned}
 use Rattle.model.proofs.Climb.{AtMost}
+use Rattle.model.proofs.Each.{each-of, each-in, flat-of, flat-in, where-of, where-in}
 
--- ---- members of joined lists
-
-module _ {A : Type 0} (x : A) (f : ℕ → List A) where
-  pub each-of : (n : ℕ) → List·Memᴰ x (each f n) → (i : ℕ) × (i < n) × List·Memᴰ x (f i)
-  unfolding each
-  each-of zero h = absurd (List·Memᴰ·not-nil h)
-  each-of (suc n) h = go (List·Memᴰ·append-cases (each f n) h) (λ k. each-of n k)
-    where
-      go : List·Memᴰ x (each f n) ⊎ List·Memᴰ x (f n) → (List·Memᴰ x (each f n) → (i : ℕ) × (i < n) × List·Memᴰ x (f i))
-          → (i : ℕ) × (i < suc n) × List·Memᴰ x (f i)
-      go (inl k) ih = let (i, l, m) = ih k in (i, omega arith, m)
-      go (inr k) ih = (n, le-refl (suc n), k)
-
-  pub each-in : (n i : ℕ) → i < n → List·Memᴰ x (f i) → List·Memᴰ x (each f n)
-  unfolding each
-  each-in zero i l m = absurd (not-suc-le-zero l)
-  each-in (suc n) i l m =
-      last-or-lower l (λ d. Memᴰ·append-right (each f n) (subst (λ (j : ℕ). List·Memᴰ x (f j)) d m)) (λ k. Memᴰ·append-left (f n) (each-in n i k m))
-
--- a list that is there only where a test passes
-where-of : {A : Type 0} {x : A} (l : List A) (t : Bool) → List·Memᴰ x (cond t l []) → (t ≡ true) × List·Memᴰ x l
-where-of l true h = (refl, h)
-where-of l false h = absurd (List·Memᴰ·not-nil h)
-
-where-in : {A : Type 0} {x : A} (l : List A) (t : Bool) → t ≡ true → List·Memᴰ x l → List·Memᴰ x (cond t l [])
-where-in l true q h = h
-where-in l false q h = clash q refl
-
--- ---- members of the list
-
--- the entry p is that of the race pair a and e, on a cell of the recording
-pub record Entered (E : Recording) (X R : Vectors) (p : Entry) : Type 0 where
-  pub a : ℕ
-  pub e : ℕ
-  pub higher : e < size E
-  pub cell : objectOf E a < cells E
-  pub race : racePair E X a e ≡ true
-  pub same : p ≡ entry E R a e
-
-module _ (E : Recording) (X R : Vectors) where
-  pub entry-of : (p : Entry) → List·Memᴰ p (entries E X R) → Entered E X R p
-  unfolding entries cellEntries entriesOf
-  entry-of p h =
-      let (c, l, m) = each-of p _ (cells E) h in
-      let (a, i, n) = each-of p _ (size E) m in
-      let (t, k) = where-of (entriesOf E X R a) (eqb (objectOf E a) c) n in
-      let (e, j, q) = each-of p _ (size E) k in
-      let (u, r) = where-of (entry E R a e ∷ []) (racePair E X a e) q in
-      record { a = a; e = e; higher = j; cell = subst (λ (x : ℕ). x < cells E) (sym (eqb-true _ c t)) l; race = u; same = List·Memᴰ·eq-of-singleton r }
-
-  pub entry-in : (a e : ℕ) → a < size E → e < size E → objectOf E a < cells E → racePair E X a e ≡ true → List·Memᴰ (entry E R a e) (entries E X R)
-  unfolding entries cellEntries entriesOf
-  entry-in a e i j l t =
-      each-in (entry E R a e) _ (cells E) (objectOf E a) l
-      (each-in (entry E R a e) _ (size E) a i
-      (where-in (entriesOf E X R a) (eqb (objectOf E a) (objectOf E a)) (eq-eqb (objectOf E a) (objectOf E a) refl)
-      (each-in (entry E R a e) _ (size E) e j (where-in (entry E R a e ∷ []) (racePair E X a e) t (List·Memᴰ·head refl)))))
-
--- ---- the parts of a race pair
-
-module _ (E : Recording) (X : Vectors) (a e : ℕ) (h : racePair E X a e ≡ true) where
-  parts : (ltb a e ≡ true) × (conflict (event E a) (event E e) ≡ true) × (unordered (E .events) X a e ≡ true)
-  unfolding racePair
-  parts = all-three (ltb a e) (conflict (event E a) (event E e)) (unordered (E .events) X a e) h
-
-  pub pair-lower : a < e
-  pair-lower = ltb-true a e (parts .0)
-
-  pub pair-apart : (ordered (E .events) X a e ≡ false) × (ordered (E .events) X e a ≡ false)
-  unfolding unordered
-  pair-apart = (
-    of-not (ordered (E .events) X a e) (first _ (not (ordered (E .events) X e a)) (parts .2)),
-    of-not (ordered (E .events) X e a) (second (not (ordered (E .events) X a e)) _ (parts .2)),
-  )
-
--- lower numbers order less
-pub ordered-more : (E : Recording) (X Y : Vectors) → AtMost X Y → (a b : ℕ) → ordered (E .events) X a b ≡ true → ordered (E .events) Y a b ≡ true
-unfolding ordered
-ordered-more E X Y up a b h =
-    both (first (not (eqb a b)) _ h) (le-leb _ _ (le-trans (leb-true (position (E .events) a) (number X b (taskOf E a)) (second (not (eqb a b)) _ h)) (up b (taskOf E a))))
-
-pub race-more : (E : Recording) (X Y : Vectors) → AtMost X Y → (a e : ℕ) → racePair E Y a e ≡ true → racePair E X a e ≡ true
-unfolding racePair unordered
-race-more E X Y up a e h =
-    let (l, c, u) = parts E Y a e h in
-    let (p, q) = pair-apart E Y a e h in
-    both (both l c) (both (still a e p) (still e a q))
-  where
-    still : (a b : ℕ) → ordered (E .events) Y a b ≡ false → not (ordered (E .events) X a b) ≡ true
-    still a b q = to-not (fails (ordered (E .events) X a b) (λ t. clash (ordered-more E X Y up a b t) q))
-
--- a conflict, and what is not ordered, has no first and second
-eqb-turned : (m n : ℕ) → eqb m n ≡ eqb n m
-eqb-turned m n =
-    cases (eqb m n) (λ t. t ∙ sym (eq-eqb n m (sym (eqb-true m n t)))) (λ t. t ∙ sym (ne-eqb n m (λ q. eqb-false m n t (sym q))))
+-- ---- a conflict, and what is not ordered, has no first and second
 
 pub symmetric : Symmetric
 unfolding conflict
@@ -124,6 +31,21 @@ pub unordered-turned : (l : List Event) (X : Vectors) (a b : ℕ) → unordered 
 unfolding unordered
 unordered-turned l X a b = and-comm (not (ordered l X a b)) (not (ordered l X b a))
 
+-- a conflict is on one cell, and between two tasks
+module _ (v w : Event) (h : conflict v w ≡ true) where
+  abbrev tests : Bool
+  tests = isAccess v && isAccess w && eqb (v .object) (w .object) && not (eqb (v .task) (w .task))
+
+  on-one : tests ≡ true
+  unfolding conflict
+  on-one = first tests (isWrite v || isWrite w) h
+
+  conflict-object : v .object ≡ w .object
+  conflict-object = eqb-true (v .object) (w .object) (second (isAccess v && isAccess w) _ (first _ (not (eqb (v .task) (w .task))) on-one))
+
+  conflict-tasks : ¬ (v .task ≡ w .task)
+  conflict-tasks = eqb-false (v .task) (w .task) (of-not _ (second (isAccess v && isAccess w && eqb (v .object) (w .object)) _ on-one))
+
 -- a conflict is on a cell
 pub conflict-cell : (c : Counts) (v w : Event) → conflict v w ≡ true → namesOf c (classOf (v .kind)) ≡ c .cells
 unfolding conflict classOf
@@ -132,6 +54,153 @@ conflict-cell c v w h = go (either (eqb (v .kind) read) (isWrite v) (all-three (
     go : (eqb (v .kind) read ≡ true) ⊎ (isWrite v ≡ true) → namesOf c (classOf (v .kind)) ≡ c .cells
     go (inl t) = ap (λ (k : ℕ). namesOf c (classOf k)) (eqb-true (v .kind) read t)
     go (inr t) = ap (λ (k : ℕ). namesOf c (classOf k)) (eqb-true (v .kind) write t)
+
+-- lower numbers order less
+pub ordered-more : (E : Recording) (X Y : Vectors) → AtMost X Y → (a b : ℕ) → ordered (E .events) X a b ≡ true → ordered (E .events) Y a b ≡ true
+unfolding ordered
+ordered-more E X Y up a b h =
+    both (first (not (eqb a b)) _ h) (le-leb _ _ (le-trans (leb-true (position (E .events) a) (number X b (taskOf E a)) (second (not (eqb a b)) _ h)) (up b (taskOf E a))))
+
+-- ---- the parts of a race pair
+
+module _ (E : Recording) (X : Vectors) (a e : ℕ) where
+  pub race-turned : racePair E X a e ≡ racePair E X e a
+  unfolding racePair
+  race-turned = rw (symmetric (event E a) (event E e), unordered-turned (E .events) X a e)
+
+  module _ (h : racePair E X a e ≡ true) where
+    pub race-conflict : conflict (event E a) (event E e) ≡ true
+    unfolding racePair
+    race-conflict = first (conflict (event E a) (event E e)) (unordered (E .events) X a e) h
+
+    race-unordered : unordered (E .events) X a e ≡ true
+    unfolding racePair
+    race-unordered = second (conflict (event E a) (event E e)) (unordered (E .events) X a e) h
+
+    -- neither is ordered before the other
+    pub race-apart : (ordered (E .events) X a e ≡ false) × (ordered (E .events) X e a ≡ false)
+    unfolding unordered
+    race-apart = (
+      of-not (ordered (E .events) X a e) (first _ (not (ordered (E .events) X e a)) race-unordered),
+      of-not (ordered (E .events) X e a) (second (not (ordered (E .events) X a e)) _ race-unordered),
+    )
+
+    -- they are on one cell, and of two tasks
+    pub race-object : objectOf E a ≡ objectOf E e
+    race-object = conflict-object (event E a) (event E e) race-conflict
+
+    pub race-tasks : ¬ (taskOf E a ≡ taskOf E e)
+    race-tasks = conflict-tasks (event E a) (event E e) race-conflict
+
+pub race-more : (E : Recording) (X Y : Vectors) → AtMost X Y → (a e : ℕ) → racePair E Y a e ≡ true → racePair E X a e ≡ true
+unfolding racePair unordered
+race-more E X Y up a e h =
+    let (p, q) = race-apart E Y a e h in
+    both (race-conflict E Y a e h) (both (still a e p) (still e a q))
+  where
+    still : (a b : ℕ) → ordered (E .events) Y a b ≡ false → not (ordered (E .events) X a b) ≡ true
+    still a b q = to-not (fails (ordered (E .events) X a b) (λ t. clash (ordered-more E X Y up a b t) q))
+
+-- ---- members of a list of entries, by any order of the events
+
+-- an entry for the events a and e with the mark m, in either order: they stand in the order, race on a cell of the recording, and
+-- the mark is theirs
+pub record Entered (E : Recording) (X R : Vectors) (order : List ℕ) (a e m : ℕ) : Type 0 where
+  pub first-in : List·Memᴰ a order
+  pub second-in : List·Memᴰ e order
+  pub cell : objectOf E a < cells E
+  pub race : racePair E X a e ≡ true
+  pub marked : m ≡ mark E R a e
+
+module _ (E : Recording) (X R : Vectors) where
+  pub mark-turned : (a e : ℕ) → mark E R a e ≡ mark E R e a
+  unfolding mark
+  mark-turned a e = rw (unordered-turned (E .events) R a e)
+
+  turned : {o : List ℕ} {a e m : ℕ} → Entered E X R o a e m → Entered E X R o e a m
+  turned {o} {a} {e} {m} r =
+      record {
+        first-in = r .second-in;
+        second-in = r .first-in;
+        cell = subst (λ (x : ℕ). x < cells E) (race-object E X a e (r .race)) (r .cell);
+        race = sym (race-turned E X a e) ∙ r .race;
+        marked = r .marked ∙ mark-turned a e;
+      }
+
+  behind : {o : List ℕ} {x a e m : ℕ} → Entered E X R o a e m → Entered E X R (x ∷ o) a e m
+  behind r = record { first-in = List·Memᴰ·tail (r .first-in); second-in = List·Memᴰ·tail (r .second-in); cell = r .cell; race = r .race; marked = r .marked }
+
+  -- an entry of a row
+  pub row-of : (c x : ℕ) (o : List ℕ) (p : Entry) → List·Memᴰ p (rowAt E X R c x o)
+      → (e : ℕ) × List·Memᴰ e o × (objectOf E x ≡ c) × (racePair E X x e ≡ true) × (p ≡ entry E R x e)
+  unfolding entriesOf
+  row-of c x o p k =
+      let (t, m) = where-of (entriesOf E X R x o) (eqb (objectOf E x) c) k in
+      let (e, i, n) = flat-of p _ o m in
+      let (u, r) = where-of (entry E R x e ∷ []) (racePair E X x e) n in
+      (e, i, eqb-true _ c t, u, List·Memᴰ·eq-of-singleton r)
+
+  -- an entry of a cell
+  cell-of : (c : ℕ) → c < cells E → (o : List ℕ) (p : Entry) → List·Memᴰ p (cellEntries E X R o c) → Entered E X R o (p .first) (p .second) (p .mark)
+  unfolding cellEntries flatMapTails
+  cell-of c l [] p h = absurd (List·Memᴰ·not-nil h)
+  cell-of c l (x ∷ o) p h = go (List·Memᴰ·append-cases (rowAt E X R c x o) h) (λ k. cell-of c l o p k)
+    where
+      go : List·Memᴰ p (rowAt E X R c x o) ⊎ List·Memᴰ p (cellEntries E X R o c) → (List·Memᴰ p (cellEntries E X R o c) → Entered E X R o (p .first) (p .second) (p .mark))
+          → Entered E X R (x ∷ o) (p .first) (p .second) (p .mark)
+      go (inr k) ih = behind (ih k)
+      go (inl k) ih =
+          let (e, i, t, u, same) = row-of c x o p k in
+          subst (λ (q : Entry). Entered E X R (x ∷ o) (q .first) (q .second) (q .mark)) (sym same)
+          (record { first-in = List·Memᴰ·head refl; second-in = List·Memᴰ·tail i; cell = subst (λ (y : ℕ). y < cells E) (sym t) l; race = u; marked = refl })
+
+  pub entry-of : (o : List ℕ) (p : Entry) → List·Memᴰ p (entriesIn E X R o) → Entered E X R o (p .first) (p .second) (p .mark)
+  unfolding entriesIn
+  entry-of o p h = let (c, l, m) = each-of p _ (cells E) h in cell-of c l o p m
+
+  pub among-of : (o : List ℕ) (a e m : ℕ) → Among (entriesIn E X R o) a e m → Entered E X R o a e m
+  among-of o a e m (inl h) = entry-of o (record { first = a; second = e; mark = m }) h
+  among-of o a e m (inr h) = turned (entry-of o (record { first = e; second = a; mark = m }) h)
+
+  -- a race pair is entered by the one of its events that stands first
+  row-in : (a e : ℕ) (o : List ℕ) → List·Memᴰ e o → racePair E X a e ≡ true → List·Memᴰ (entry E R a e) (rowAt E X R (objectOf E a) a o)
+  unfolding entriesOf
+  row-in a e o m t =
+      where-in (entriesOf E X R a o) (eqb (objectOf E a) (objectOf E a)) (eq-eqb (objectOf E a) (objectOf E a) refl)
+      (flat-in (entry E R a e) _ o e m (where-in (entry E R a e ∷ []) (racePair E X a e) t (List·Memᴰ·head refl)))
+
+  cell-in : (o : List ℕ) (a e : ℕ) → List·Memᴰ a o → List·Memᴰ e o → racePair E X a e ≡ true
+      → List·Memᴰ (entry E R a e) (cellEntries E X R o (objectOf E a)) ⊎ List·Memᴰ (entry E R e a) (cellEntries E X R o (objectOf E a))
+  unfolding cellEntries flatMapTails
+  cell-in (x ∷ o) a e (List·Memᴰ·head p) (List·Memᴰ·head q) t = absurd (race-tasks E X a e t (ap (taskOf E) (p ∙ sym q)))
+  cell-in (x ∷ o) a e (List·Memᴰ·head p) (List·Memᴰ·tail n) t =
+      inl (Memᴰ·append-left _ (subst (λ (y : ℕ). List·Memᴰ (entry E R a e) (rowAt E X R (objectOf E a) y o)) p (row-in a e o n t)))
+  cell-in (x ∷ o) a e (List·Memᴰ·tail m) (List·Memᴰ·head q) t =
+      inr
+      (Memᴰ·append-left _
+      (subst₂ (λ (c y : ℕ). List·Memᴰ (entry E R e a) (rowAt E X R c y o)) (sym (race-object E X a e t)) q
+      (row-in e a o m (sym (race-turned E X a e) ∙ t))))
+  cell-in (x ∷ o) a e (List·Memᴰ·tail m) (List·Memᴰ·tail n) t = further (cell-in o a e m n t)
+    where
+      further : List·Memᴰ (entry E R a e) (cellEntries E X R o (objectOf E a)) ⊎ List·Memᴰ (entry E R e a) (cellEntries E X R o (objectOf E a))
+          → List·Memᴰ (entry E R a e) (cellEntries E X R (x ∷ o) (objectOf E a)) ⊎ List·Memᴰ (entry E R e a) (cellEntries E X R (x ∷ o) (objectOf E a))
+      further (inl k) = inl (Memᴰ·append-right (rowAt E X R (objectOf E a) x o) k)
+      further (inr k) = inr (Memᴰ·append-right (rowAt E X R (objectOf E a) x o) k)
+
+  pub among-in : (o : List ℕ) (a e m : ℕ) → Entered E X R o a e m → Among (entriesIn E X R o) a e m
+  unfolding entriesIn
+  among-in o a e m r =
+      subst (Among (entriesIn E X R o) a e) (sym (r .marked)) (listed (cell-in o a e (r .first-in) (r .second-in) (r .race)))
+    where
+      here : (p : Entry) → List·Memᴰ p (cellEntries E X R o (objectOf E a)) → List·Memᴰ p (entriesIn E X R o)
+      here p k = each-in p (cellEntries E X R o) (cells E) (objectOf E a) (r .cell) k
+
+      listed : List·Memᴰ (entry E R a e) (cellEntries E X R o (objectOf E a)) ⊎ List·Memᴰ (entry E R e a) (cellEntries E X R o (objectOf E a))
+          → Among (entriesIn E X R o) a e (mark E R a e)
+      listed (inl k) = inl (here (entry E R a e) k)
+      listed (inr k) =
+          inr
+          (subst (λ (n : ℕ). List·Memᴰ (record { first = e; second = a; mark = n }) (entriesIn E X R o)) (mark-turned e a) (here (entry E R e a) k))
 
 -- an entry is three numbers
 pub numbers-length : (l : List Entry) → length (entryNumbers l) ≡ 3 * length l

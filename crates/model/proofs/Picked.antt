@@ -14,6 +14,7 @@ use Rattle.model.specs.Orders.{place, occurrences}
 use Rattle.model.proofs.Tests.{cases, clash, to-not, both, and-true, and-fails, bit-true, bit-false, bit-le, bit-pos, first, second, tests, bits, last-or-lower, eqb-true, eq-eqb, lt-ltb, le-ltb, ltb-true}
 use Rattle.model.proofs.Counting.{count-append}
 use Rattle.model.proofs.Sum.{sum-bound, ranked, rank-rises}
+use Rattle.model.proofs.Each.{each-in, where-in}
 use Rattle.model.proofs.Place.{place-lt, place-here, place-there, at-occurs}
 
 mem-occurs : (e : ℕ) (l : List ℕ) → List·Memᴰ e l → 0 < occurrences e l
@@ -120,6 +121,10 @@ module _ (p : ℕ → Bool) where
 
   pub picked-mem : (e n : ℕ) → List·Memᴰ e (picked p n) → (e < n) × (p e ≡ true)
   picked-mem e n m = picked-of e n (mem-occurs e (picked p n) m)
+
+  pub picked-in : (e n : ℕ) → e < n → p e ≡ true → List·Memᴰ e (picked p n)
+  unfolding picked
+  picked-in e n l t = each-in e (λ a. cond (p a) (a ∷ []) []) n e l (where-in (e ∷ []) (p e) t (List·Memᴰ·head refl))
 
   pub picked-below : (n i : ℕ) → i < length (picked p n) → getD (picked p n) i 0 < n
   picked-below n i h = picked-of (getD (picked p n) i 0) n (at-occurs (picked p n) i h) .0

@@ -1,10 +1,10 @@
--- Lists in which each number below n stands once: places, and counts over their first elements as tallies.
+-- Lists in which each number below n stands once: places, and sums and counts over them as those over the numbers.
 -- Assumes nothing.
-use Prim.Native.Nat.{ℕ, zero, suc, _+_, _≤_, _<_, zero-le}
+use Prim.Native.Nat.{ℕ, zero, suc, _+_, _*_, _≤_, _<_, zero-le}
 use mathlib.Core.Path.{_≡_, refl, sym, ap, _∙_}
 use mathlib.Core.Bool.{Bool, true, false, cond, _&&_}
 use mathlib.Core.List.{List, [], _∷_, map}
-use native.Mathlib.Nat.{not-suc-le-zero, le-of-suc-le-suc}
+use native.Mathlib.Nat.{not-suc-le-zero, le-of-suc-le-suc, mul-zero, mul-one, mul-add, zero-mul, one-mul}
 use native.Mathlib.Omega.{arith}
 use lib.Dec.{ltb, eqb, leb·suc-suc}
 use lib.ListN.{length, getD, take}
@@ -83,23 +83,22 @@ place-at (x ∷ o) (suc i) h k =
     cases (eqb (getD o i 0) x) (λ t. let b = at-occurs o i (le-of-suc-le-suc h) in absurd (omega bits))
     (λ t. place-there (getD o i 0) x o t ∙ ap suc (place-at o i (le-of-suc-le-suc h) (omega bits)))
 
--- ---- counts
+-- ---- sums over a list
 
--- a count over a list of numbers below n, number by number
-count-by : (p : ℕ → Bool) (n : ℕ) (l : List ℕ) → ((e : ℕ) → n ≤ e → occurrences e l ≡ 0)
-    → count p l ≡ sum (λ e. cond (p e) (occurrences e l) 0) n
-unfolding count
-count-by p n [] h = sym (sum-nothing (λ e. cond (p e) 0 0) n (λ e l. same (p e)))
-  where
-    same : (b : Bool) → _≡_ {A = ℕ} (cond b 0 0) 0
-    same true = refl
-    same false = refl
-count-by p n (x ∷ l) h =
-    let ih = count-by p n l (λ e k. let z = h e k in omega arith) in
-    let one = sum-single (λ e. bit (p e)) x n inside in
-    let s = sum-add (λ e. cond (eqb e x) (bit (p e)) 0) (λ e. cond (p e) (occurrences e l) 0) n in
-    let t = sum-ext (λ e. cond (eqb e x) (bit (p e)) 0 + cond (p e) (occurrences e l) 0) (λ e. cond (p e) (occurrences e (x ∷ l)) 0) n
-    (λ e k. term (p e) (eqb e x) (occurrences e l)) in
+unfoldable pub sumOver : (ℕ → ℕ) → List ℕ → ℕ
+sumOver f [] = 0
+sumOver f (x ∷ l) = f x + sumOver f l
+
+-- over a list of numbers below n, number by number
+over-by : (f : ℕ → ℕ) (n : ℕ) (l : List ℕ) → ((e : ℕ) → n ≤ e → occurrences e l ≡ 0) → sumOver f l ≡ sum (λ e. f e * occurrences e l) n
+unfolding count sumOver
+over-by f n [] h = sym (sum-nothing (λ e. f e * 0) n (λ e l. mul-zero (f e)))
+over-by f n (x ∷ l) h =
+    let ih = over-by f n l (λ e k. let z = h e k in omega arith) in
+    let one = sum-single f x n inside in
+    let s = sum-add (λ e. cond (eqb e x) (f e) 0) (λ e. f e * occurrences e l) n in
+    let t = sum-ext (λ e. cond (eqb e x) (f e) 0 + f e * occurrences e l) (λ e. f e * occurrences e (x ∷ l)) n
+    (λ e k. term (f e) (eqb e x) (occurrences e l)) in
     omega arith
   where
     inside : x < n
@@ -107,11 +106,24 @@ count-by p n (x ∷ l) h =
         cases (ltb x n) (λ t. ltb-true x n t)
         (λ t. let z = h x (ltb-false x n t) in let b = bit-true (eq-eqb x x refl) in absurd (omega arith))
 
-    term : (a b : Bool) (m : ℕ) → cond b (bit a) 0 + cond a m 0 ≡ cond a (bit b + m) 0
-    term true true m = refl
-    term true false m = refl
-    term false true m = refl
-    term false false m = refl
+    term : (k : ℕ) (b : Bool) (m : ℕ) → cond b k 0 + k * m ≡ k * (bit b + m)
+    term k true m = let x = mul-add k 1 m in let y = mul-one k in omega arith
+    term k false m = let x = mul-add k 0 m in let y = mul-zero k in omega arith
+
+count-over : (p : ℕ → Bool) (l : List ℕ) → count p l ≡ sumOver (λ e. bit (p e)) l
+unfolding count sumOver
+count-over p [] = refl
+count-over p (x ∷ l) = ap (λ (n : ℕ). bit (p x) + n) (count-over p l)
+
+length-over : (l : List ℕ) → length l ≡ sumOver (λ e. 1) l
+unfolding sumOver
+length-over [] = refl
+length-over (x ∷ l) = let h = length-over l in omega arith
+
+sum-ones : (n : ℕ) → sum (λ e. 1) n ≡ n
+unfolding sum
+sum-ones zero = refl
+sum-ones (suc n) = let h = sum-ones n in omega arith
 
 module _ (n : ℕ) (o : List ℕ) (once : (e : ℕ) → occurrences e o ≡ bit (ltb e n)) where
   pub stands : (e : ℕ) → e < n → occurrences e o ≡ 1
@@ -120,13 +132,23 @@ module _ (n : ℕ) (o : List ℕ) (once : (e : ℕ) → occurrences e o ≡ bit 
   -- a count over the first i elements
   pub count-take : (p : ℕ → Bool) (i : ℕ) → count p (take i o) ≡ tally (λ e. p e && ltb (place o e) i) n
   count-take p i =
-      count-by p n (take i o) (λ e l. take-none e i o (once e ∙ bit-false (le-ltb e n l)))
-      ∙ sum-ext (λ e. cond (p e) (occurrences e (take i o)) 0) (λ e. bit (p e && ltb (place o e) i)) n
-      (λ e l. ap (λ (m : ℕ). cond (p e) m 0) (take-once e i o (stands e l)) ∙ term (p e) (ltb (place o e) i))
+      count-over p (take i o)
+      ∙ over-by (λ e. bit (p e)) n (take i o) (λ e l. take-none e i o (once e ∙ bit-false (le-ltb e n l)))
+      ∙ sum-ext (λ e. bit (p e) * occurrences e (take i o)) (λ e. bit (p e && ltb (place o e) i)) n
+      (λ e l. ap (λ (m : ℕ). bit (p e) * m) (take-once e i o (stands e l)) ∙ term (p e) (ltb (place o e) i))
     where
-      term : (a b : Bool) → cond a (bit b) 0 ≡ bit (a && b)
-      term true b = refl
-      term false b = refl
+      term : (a b : Bool) → bit a * bit b ≡ bit (a && b)
+      term true b = one-mul (bit b)
+      term false b = zero-mul (bit b)
+
+  -- a sum over all elements
+  pub over-once : (f : ℕ → ℕ) → sumOver f o ≡ sum f n
+  over-once f =
+      over-by f n o (λ e l. once e ∙ bit-false (le-ltb e n l))
+      ∙ sum-ext (λ e. f e * occurrences e o) f n (λ e l. ap (λ (m : ℕ). f e * m) (stands e l) ∙ mul-one (f e))
+
+  pub length-once : length o ≡ n
+  length-once = length-over o ∙ over-once (λ e. 1) ∙ sum-ones n
 
   pub place-inj : (a b : ℕ) → a < n → b < n → place o a ≡ place o b → a ≡ b
   place-inj a b k l e =

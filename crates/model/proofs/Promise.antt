@@ -2,30 +2,41 @@
 -- bring either event forward, the budgets by climbing and by the bound on the sum of all numbers.
 -- Assumes nothing.
 use Prim.Native.Nat.{ℕ, _≤_, _<_}
-use mathlib.Core.Path.{_≡_, refl, sym, ap, subst, subst₂, _∙_}
-use mathlib.Core.Logic.{inl, inr}
+use mathlib.Core.Path.{_≡_, refl, sym, ap, subst, _∙_}
+use mathlib.Core.Logic.{inl}
 use mathlib.Core.Bool.{Bool, true, false, cond, not}
 use mathlib.Core.List.{List·Memᴰ}
 use native.Mathlib.Omega.{arith}
 use lib.Dec.{eqb}
-use Rattle.model.specs.Recording.{Recording, size, event, objectOf, Accepted}
-use Rattle.model.specs.Orders.{Admissible, Always, Sometimes}
+use Rattle.model.specs.Recording.{Recording, size, tasks, event, taskOf, objectOf, Accepted}
+use Rattle.model.specs.Orders.{Admissible, Always, Sometimes, fileOrder}
 use Rattle.model.specs.Vectors.{ordered, unordered}
 use Rattle.model.specs.Passes.{Run, needed, candidates, stepOne, passTo, run}
 use Rattle.model.specs.Recorded.{recorded}
-use Rattle.model.specs.Pairs.{Entry, conflict, racePair, mark, entries, listed, OnList}
+use Rattle.model.specs.Pairs.{Entry, conflict, racePair, mark, taskOrder, entries, listed, OnList}
 use Rattle.model.specs.Promise.{Promise, Promised, EnoughCandidates}
-use Rattle.model.proofs.Tests.{cases, of-not, to-not, both, first, second, and-false, lt-ltb, ne-eqb}
-use Rattle.model.proofs.Accept.{object-inside}
-use Rattle.model.proofs.FileOrder.{fileOrder, file-admissible, file-lower}
+use Rattle.model.proofs.Tests.{cases, of-not, to-not, both, first, second, and-false, ne-eqb}
+use Rattle.model.proofs.Accept.{task-inside, object-inside}
+use Rattle.model.proofs.FileOrder.{file-admissible, file-lower}
 use Rattle.model.proofs.Sound.{passTo-length, ordered-precedes, step-one, passTo-safe, enough}
 use Rattle.model.proofs.Climb.{run-shaped, run-safe, settled-stays, budget-up}
 use Rattle.model.proofs.Settle.{settles}
 use Rattle.model.proofs.Recorded.{upTo}
 use Rattle.model.proofs.Forward.{bringForward, forward-admissible, forward-precedes}
-use Rattle.model.proofs.Listed.{entry-of, entry-in, pair-lower, race-more, conflict-cell}
+use Rattle.model.proofs.Listed.{Entered, among-of, among-in, race-tasks, race-more, conflict-cell}
+use Rattle.model.proofs.TaskOrder.{order-of, order-in}
 use Rattle.model.proofs.Files.{accepted-recording}
 use lib.ListN.{length}
+
+module _ (E : Recording) where
+  -- what an entry of the list says of its two events
+  pub on-list : (b a e m : ℕ) → OnList E a e b m → Entered E (run E b .vectors) (recorded E) (taskOrder (E .events) (tasks E)) a e m
+  unfolding listed entries
+  on-list b a e m h = among-of E (run E b .vectors) (recorded E) (taskOrder (E .events) (tasks E)) a e m h
+
+  -- they are events of the recording
+  pub inside : (e : ℕ) → List·Memᴰ e (taskOrder (E .events) (tasks E)) → e < size E
+  inside e h = order-of (E .events) (tasks E) e h
 
 module _ (E : Recording) (acc : Accepted E) where
   file : Admissible E (fileOrder E)
@@ -46,14 +57,18 @@ module _ (E : Recording) (acc : Accepted E) where
   -- ---- off the list
 
   -- a conflicting pair that neither way is ordered is on the list
-  pub put : (b a e : ℕ) → a < e → e < size E → conflict (event E a) (event E e) ≡ true
+  pub put : (b a e : ℕ) → a < size E → e < size E → conflict (event E a) (event E e) ≡ true
       → ordered (E .events) (run E b .vectors) a e ≡ false → ordered (E .events) (run E b .vectors) e a ≡ false → OnList E a e b (mark E (recorded E) a e)
-  unfolding listed racePair unordered
+  unfolding listed entries racePair unordered
   put b a e k l t p q =
-      inl
-      (entry-in E (run E b .vectors) (recorded E) a e (omega arith) l
-      (subst (λ (n : ℕ). objectOf E a < n) (conflict-cell (E .counts) (event E a) (event E e) t) (object-inside E acc a (omega arith)))
-      (both (both (lt-ltb a e k) t) (both (to-not p) (to-not q))))
+      among-in E (run E b .vectors) (recorded E) (taskOrder (E .events) (tasks E)) a e (mark E (recorded E) a e)
+      (record {
+        first-in = order-in (E .events) (tasks E) (task-inside E acc) a k;
+        second-in = order-in (E .events) (tasks E) (task-inside E acc) e l;
+        cell = subst (λ (n : ℕ). objectOf E a < n) (conflict-cell (E .counts) (event E a) (event E e) t) (object-inside E acc a k);
+        race = both t (both (to-not p) (to-not q));
+        marked = refl;
+      })
 
   off-list : (b a e : ℕ) → a < e → e < size E → conflict (event E a) (event E e) ≡ true → ((m : ℕ) → ¬ (OnList E a e b m)) → Always E a e
   off-list b a e k l t none =
@@ -61,7 +76,7 @@ module _ (E : Recording) (acc : Accepted E) where
       (λ p.
       cases (ordered (E .events) (run E b .vectors) e a)
       (λ q. let r = file-lower E e a l (omega arith) (ordered-always b e a l (omega arith) q (fileOrder E) file) in absurd (omega arith))
-      (λ q. absurd (none (mark E (recorded E) a e) (put b a e k l t p q))))
+      (λ q. absurd (none (mark E (recorded E) a e) (put b a e (omega arith) l t p q))))
 
   -- ---- sure
 
@@ -81,15 +96,11 @@ module _ (E : Recording) (acc : Accepted E) where
   )
 
   sure : (b : ℕ) (p : Entry) → List·Memᴰ p (listed E b) → p .mark ≡ 1 → Sometimes E (p .first) (p .second) × Sometimes E (p .second) (p .first)
-  unfolding listed mark
+  unfolding mark
   sure b p m q =
-      let r = entry-of E (run E b .vectors) (recorded E) p m in
-      let less = pair-lower E (run E b .vectors) (r .a) (r .e) (r .race) in
-      let top = r .higher in
-      let (f, g) = both-ways (r .a) (r .e) (omega arith) top (λ z. omega arith) (is-sure _ (sym (ap (λ (x : Entry). x .mark) (r .same)) ∙ q)) in
-      let u = sym (ap (λ (x : Entry). x .first) (r .same)) in
-      let v = sym (ap (λ (x : Entry). x .second) (r .same)) in
-      (subst₂ (Sometimes E) u v f, subst₂ (Sometimes E) v u g)
+      let r = on-list E b (p .first) (p .second) (p .mark) (inl m) in
+      both-ways (p .first) (p .second) (inside E _ (r .first-in)) (inside E _ (r .second-in))
+      (λ z. race-tasks E (run E b .vectors) (p .first) (p .second) (r .race) (ap (taskOf E) z)) (is-sure _ (sym (r .marked) ∙ q))
     where
       is-sure : (t : Bool) → _≡_ {A = ℕ} (cond t 1 0) 1 → t ≡ true
       is-sure true z = refl
@@ -98,42 +109,22 @@ module _ (E : Recording) (acc : Accepted E) where
 -- ---- larger budgets
 
 module _ (E : Recording) where
-  -- an entry of a larger budget is one of the smaller, with its mark
-  entry-stays : (b d : ℕ) → b ≤ d → (p : Entry) → List·Memᴰ p (listed E d) → List·Memᴰ p (listed E b)
-  unfolding listed
-  entry-stays b d h p m =
-      let r = entry-of E (run E d .vectors) (recorded E) p m in
-      let less = pair-lower E (run E d .vectors) (r .a) (r .e) (r .race) in
-      let top = r .higher in
-      subst (λ (q : Entry). List·Memᴰ q (entries E (run E b .vectors) (recorded E))) (sym (r .same))
-      (entry-in E (run E b .vectors) (recorded E) (r .a) (r .e) (omega arith) top (r .cell)
-      (race-more E (run E b .vectors) (run E d .vectors) (budget-up E b d h) (r .a) (r .e) (r .race)))
-
   adds-none : (b d : ℕ) → b ≤ d → (a e m : ℕ) → OnList E a e d m → OnList E a e b m
-  adds-none b d h a e m (inl k) = inl (entry-stays b d h _ k)
-  adds-none b d h a e m (inr k) = inr (entry-stays b d h _ k)
+  unfolding listed entries
+  adds-none b d h a e m k =
+      let r = on-list E d a e m k in
+      among-in E (run E b .vectors) (recorded E) (taskOrder (E .events) (tasks E)) a e m
+      (record {
+        first-in = r .first-in;
+        second-in = r .second-in;
+        cell = r .cell;
+        race = race-more E (run E b .vectors) (run E d .vectors) (budget-up E b d h) a e (r .race);
+        marked = r .marked;
+      })
 
-  -- an entry is that of a race pair, and its mark is that of the two
-  pub entry-race : (b a e m : ℕ) → List·Memᴰ (record { first = a; second = e; mark = m }) (listed E b)
-      → (racePair E (run E b .vectors) a e ≡ true) × (m ≡ mark E (recorded E) a e)
-  unfolding listed
-  entry-race b a e m k =
-      let r = entry-of E (run E b .vectors) (recorded E) (record { first = a; second = e; mark = m }) k in
-      let u = sym (ap (λ (x : Entry). x .first) (r .same)) in
-      let v = sym (ap (λ (x : Entry). x .second) (r .same)) in (
-        subst₂ (λ (x y : ℕ). racePair E (run E b .vectors) x y ≡ true) u v (r .race),
-        ap (λ (x : Entry). x .mark) (r .same) ∙ subst₂ (λ (x y : ℕ). mark E (recorded E) (r .a) (r .e) ≡ mark E (recorded E) x y) u v refl,
-      )
-
-  -- it names the lower event first
-  entry-lower : (b a e m : ℕ) → List·Memᴰ (record { first = a; second = e; mark = m }) (listed E b) → a < e
-  entry-lower b a e m k = pair-lower E (run E b .vectors) a e (entry-race b a e m k .0)
-
+  -- a mark is that of its two events, whichever is named first
   one-mark : (b d a e m n : ℕ) → OnList E a e d m → OnList E a e b n → m ≡ n
-  one-mark b d a e m n (inl k) (inl l) = entry-race d a e m k .1 ∙ sym (entry-race b a e n l .1)
-  one-mark b d a e m n (inl k) (inr l) = let x = entry-lower d a e m k in let y = entry-lower b e a n l in absurd (omega arith)
-  one-mark b d a e m n (inr k) (inl l) = let x = entry-lower d e a m k in let y = entry-lower b a e n l in absurd (omega arith)
-  one-mark b d a e m n (inr k) (inr l) = entry-race d e a m k .1 ∙ sym (entry-race b e a n l .1)
+  one-mark b d a e m n k l = on-list E d a e m k .marked ∙ sym (on-list E b a e n l .marked)
 
   keeps-list : (b d : ℕ) → b ≤ d → run E b .settled ≡ true → listed E d ≡ listed E b
   unfolding listed

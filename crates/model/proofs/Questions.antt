@@ -1,8 +1,8 @@
 -- The answer to a question is read like the list, and what it says of two events holds of the admissible orders.
 -- Assumes nothing.
 use Prim.Native.Nat.{ℕ, _<_}
-use mathlib.Core.Path.{_≡_, refl, ap, subst, _∙_}
-use mathlib.Core.Logic.{_↔_, inl, inr}
+use mathlib.Core.Path.{_≡_, refl, ap, subst}
+use mathlib.Core.Logic.{_↔_}
 use mathlib.Core.Bool.{Bool, true, false, cond}
 use native.Mathlib.Omega.{arith}
 use Rattle.model.specs.declared.Relation.{Relation}
@@ -13,9 +13,8 @@ use Rattle.model.specs.Recorded.{recorded}
 use Rattle.model.specs.Pairs.{conflict, mark, OnList}
 use Rattle.model.specs.Question.{relationOf}
 use Rattle.model.specs.Questions.{QuestionPromise, QuestionPromised}
-use Rattle.model.proofs.Tests.{compared}
-use Rattle.model.proofs.Listed.{pair-apart, symmetric, unordered-turned}
-use Rattle.model.proofs.Promise.{ordered-always, put, both-ways, entry-race}
+use Rattle.model.proofs.Listed.{race-apart}
+use Rattle.model.proofs.Promise.{on-list, ordered-always, put, both-ways}
 use Rattle.model.proofs.Files.{accepted-recording}
 
 -- ---- the answer by its tests: a is ordered before b, b before a, and the recorded vectors do not order them
@@ -67,33 +66,20 @@ module _ (E : Recording) (acc : Accepted E) (a b : ℕ) (k : a < size E) (l : b 
 
   enlisted : (v : Bool) → conflict (event E a) (event E b) ≡ true → before ≡ false → after ≡ false → free ≡ v → OnList E a b budget (marked v)
   unfolding mark
-  enlisted v t p q u =
-      compared a b (λ less. subst (OnList E a b budget) (ap marked u) (put E acc budget a b less l t p q)) (λ e. absurd (apart e))
-      (λ more.
-      turned
-      (subst (OnList E b a budget) (ap marked (unordered-turned (E .events) (recorded E) b a ∙ u))
-      (put E acc budget b a more k (symmetric (event E b) (event E a) ∙ t) q p)))
-    where
-      turned : OnList E b a budget (marked v) → OnList E a b budget (marked v)
-      turned (inl m) = inr m
-      turned (inr m) = inl m
+  enlisted v t p q u = subst (OnList E a b budget) (ap marked u) (put E acc budget a b k l t p q)
 
-  on-list : (m : ℕ) → OnList E a b budget m → (before ≡ false) × (after ≡ false) × (m ≡ marked free)
+  told-listed : (m : ℕ) → OnList E a b budget m → (before ≡ false) × (after ≡ false) × (m ≡ marked free)
   unfolding mark
-  on-list m (inl h) =
-      let (race, w) = entry-race E budget a b m h in
-      let (p, q) = pair-apart E (safeVectors E budget) a b race in
-      (p, q, w)
-  on-list m (inr h) =
-      let (race, w) = entry-race E budget b a m h in
-      let (q, p) = pair-apart E (safeVectors E budget) b a race in
-      (p, q, w ∙ ap marked (unordered-turned (E .events) (recorded E) b a))
+  told-listed m h =
+      let r = on-list E budget a b m h in
+      let (p, q) = race-apart E (safeVectors E budget) a b (r .race) in
+      (p, q, r .marked)
 
   listed-as : (v : Bool) → conflict (event E a) (event E b) ≡ true → (relationOf E a b budget ≡ standing v) ↔ OnList E a b budget (marked v)
   unfolding relationOf
   listed-as v t = (
     λ h. let (p, q, u) = by v h in enlisted v t p q u,
-    λ h. let (p, q, w) = on-list (marked v) h in let u = mark-same free v w in rw (p, q, u),
+    λ h. let (p, q, w) = told-listed (marked v) h in let u = mark-same free v w in rw (p, q, u),
   )
     where
       by : (v : Bool) → relationOf E a b budget ≡ standing v → (before ≡ false) × (after ≡ false) × (free ≡ v)

@@ -13,7 +13,7 @@ use lib.Dec.{leb, ltb, eqb}
 use lib.ListN.{getD, set, List·getD-eq-default}
 use Rattle.model.specs.Numbers.{tally, largest, nth, found}
 use Rattle.model.specs.Recording.{startOf, event, ofTask, isSignal, isWait, Accepted, Recording, size, taskOf, kindOf, objectOf, tasks, wait}
-use Rattle.model.specs.Orders.{Admissible}
+use Rattle.model.specs.Orders.{Admissible, fileOrder}
 use Rattle.model.specs.Vectors.{position, Vectors, number, start}
 use Rattle.model.specs.Passes.{sources, gathered, signalsOn}
 use Rattle.model.specs.Recorded.{waitsBefore, matchWhere, matched, causes, recordedTo, recorded}
@@ -26,7 +26,7 @@ use Rattle.model.proofs.Picked.{nth-of, nth-found}
 use Rattle.model.proofs.Rules.{sooner, wait-served}
 use Rattle.model.proofs.Sources.{last-found, source-of, source-precedes, of-found, has-previous}
 use Rattle.model.proofs.Accept.{task-inside}
-use Rattle.model.proofs.FileOrder.{fileOrder, file-admissible, file-lower, file-test}
+use Rattle.model.proofs.FileOrder.{file-admissible, file-lower, file-test}
 use Rattle.model.proofs.Climb.{Shaped, set-shaped, start-shaped, gathered-length, gathered-at}
 
 -- ---- the matched signal

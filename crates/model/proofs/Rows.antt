@@ -104,8 +104,6 @@ conflicts = record {
   two-cells = refl;
   no-access = refl;
   no-kind = refl;
-  by-cell = refl;
-  by-event = refl;
 }
 
 pub table : Table

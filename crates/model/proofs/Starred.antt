@@ -1,10 +1,11 @@
--- The starred recordings, those with start counts, and the edge files: each row computes.
+-- The starred recordings, those with start counts, those in task order, and the edge files: each row computes.
 -- Assumes nothing.
 use mathlib.Core.Path.{refl}
 use Rattle.model.specs.declared.Refusal.{Refusal}
 use Rattle.model.specs.declared.Reading.{Reading}
 use Rattle.model.specs.Rows.Starred.{Starred, Edges}
 use Rattle.model.specs.Rows.Started.{Started}
+use Rattle.model.specs.Rows.Ordered.{InTaskOrder}
 use Rattle.model.proofs.Computing.{rows, refusal}
 
 pub starred : Starred
@@ -47,6 +48,22 @@ started = record {
   semaphores-64 = refl;
   semaphores-65 = refusal Reading.Refused Refusal.Count;
   wraps = refusal Reading.Refused Refusal.Extent;
+}
+
+pub in-task-order : InTaskOrder
+unfolding rows
+in-task-order = record {
+  g-order = refl;
+  mixed-order = refl;
+  recorded-first = refl;
+  recorded-last = refl;
+  open-last = refl;
+  by-cell = refl;
+  by-task = refl;
+  by-position = refl;
+  by-all = refl;
+  g-by-file = refl;
+  mixed-by-file = refl;
 }
 
 pub edges : Edges

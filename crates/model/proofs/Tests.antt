@@ -74,6 +74,10 @@ pub implies-by : (a b : Bool) → (a ≡ true → b ≡ true) → implies a b �
 implies-by true b h = h refl
 implies-by false b h = refl
 
+pub eqb-turned : (m n : ℕ) → eqb m n ≡ eqb n m
+eqb-turned m n =
+    cases (eqb m n) (λ t. t ∙ sym (eq-eqb n m (sym (eqb-true m n t)))) (λ t. t ∙ sym (ne-eqb n m (λ q. eqb-false m n t (sym q))))
+
 -- ---- bits
 
 pub bit-true : {b : Bool} → b ≡ true → bit b ≡ 1

@@ -1,7 +1,8 @@
 -- The program's report is never cut off: a line has few bytes, and an accepted file has few entries.
 -- Assumes nothing.
 use Prim.Native.Nat.{ℕ, zero, suc, _+_, _*_, _/_, _^_, _≤_, _<_, zero-le}
-use mathlib.Core.Path.{_≡_, refl, sym, subst}
+use mathlib.Core.Path.{_≡_, refl}
+use mathlib.Core.Logic.{inl}
 use mathlib.Core.Bool.{Bool, true, false}
 use mathlib.Core.List.{List, [], _∷_, List·Memᴰ, List·Memᴰ·head, List·Memᴰ·tail}
 use native.Mathlib.Nat.{le-refl, min-eq-left, pow-suc, div-lt-iff-lt-mul}
@@ -15,8 +16,7 @@ use Rattle.model.specs.Refusals.{numberOf, recordOf}
 use Rattle.model.specs.Recording.{Recording, size, tasks, cells, objectOf}
 use Rattle.model.specs.File.{recordingOf}
 use Rattle.model.specs.Reading.{fileCheck, mostCells, mostEvents}
-use Rattle.model.specs.Passes.{run, safeVectors}
-use Rattle.model.specs.Recorded.{recorded}
+use Rattle.model.specs.Passes.{run}
 use Rattle.model.specs.Pairs.{Entry, listed}
 use Rattle.model.specs.Analysing.{workCheck, analysisCheck}
 use Rattle.model.specs.Text.{bytes, decimalIn}
@@ -24,7 +24,7 @@ use Rattle.model.specs.Report.{field, settledWord, resultLine, markWord,
 use Rattle.model.specs.Uncut.{listNumbers, outBytes, Uncut}
 use Rattle.model.proofs.Tests.{cases, lt-ltb, leb-true}
 use Rattle.model.proofs.Checks.{unless-passed, then-passed}
-use Rattle.model.proofs.Listed.{entry-of, pair-lower}
+use Rattle.model.proofs.Promise.{on-list, inside}
 use Rattle.model.proofs.Files.{sound, size-records}
 
 -- ---- how many digits a number has
@@ -95,14 +95,13 @@ lines-length E (p ∷ l) h =
     simp length-append (omega arith)
 
 listed-length : (E : Recording) → size E ≤ mostEvents → cells E ≤ mostCells → (budget : ℕ) (p : Entry) → List·Memᴰ p (listed E budget) → length (entryText (E .events) p) ≤ 25
-unfolding entryText listed
+unfolding entryText
 listed-length E n c budget p m =
-    let r = entry-of E (safeVectors E budget) (recorded E) p m in
-    let less = pair-lower E (safeVectors E budget) (r .a) (r .e) (r .race) in
-    let top = r .higher in
+    let r = on-list E budget (p .first) (p .second) (p .mark) (inl m) in
     let cell = r .cell in
-    subst (λ (q : Entry). length (entryLine (objectOf E (q .first)) (q .first) (q .second) (q .mark)) ≤ 25) (sym (r .same))
-    (entry-length (objectOf E (r .a)) (r .a) (r .e) _ (omega arith) (omega arith) (omega arith))
+    let a = inside E (p .first) (r .first-in) in
+    let b = inside E (p .second) (r .second-in) in
+    entry-length (objectOf E (p .first)) (p .first) (p .second) (p .mark) (omega arith) (omega arith) (omega arith)
 
 text-length : (E : Recording) → size E ≤ mostEvents → cells E ≤ mostCells → (budget : ℕ) → length (resultText E budget) ≤ 122 + 25 * length (listed E budget)
 unfolding resultText

@@ -20,4 +20,6 @@ pub mod RoundTrip
 pub mod Editions
 pub mod Promise
 pub mod Questions
+pub mod SamePairs
+pub mod Ascending
 pub mod Rows

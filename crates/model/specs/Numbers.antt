@@ -44,6 +44,16 @@ unfoldable pub each : {A : Type 0} → (ℕ → List A) → ℕ → List A
 each f zero = []
 each f (suc n) = each f n ++ f n
 
+-- f of each element of the list, one after another
+unfoldable pub flatMap : {A B : Type 0} → (A → List B) → List A → List B
+flatMap f [] = []
+flatMap f (x ∷ l) = f x ++ flatMap f l
+
+-- f of each element of the list and the elements behind it, one after another
+unfoldable pub flatMapTails : {A B : Type 0} → (A → List A → List B) → List A → List B
+flatMapTails f [] = []
+flatMapTails f (x ∷ l) = f x l ++ flatMapTails f l
+
 -- the numbers below n that pass the test, in order
 unfoldable pub picked : (ℕ → Bool) → ℕ → List ℕ
 picked p n = each (λ e. cond (p e) (e ∷ []) []) n

@@ -7,7 +7,7 @@ use mathlib.Core.List.{List, [], _∷_, map}
 use lib.Dec.{ltb, eqb}
 use lib.ListN.{length, getD, take}
 use Rattle.model.specs.declared.Event.{Event}
-use Rattle.model.specs.Numbers.{bit, count}
+use Rattle.model.specs.Numbers.{bit, count, picked}
 use Rattle.model.specs.Recording.{Levels, Recording, size, noEvent, event, taskOf, obeys}
 
 -- where the order puts event e; its length where it does not have it
@@ -18,6 +18,10 @@ place (x ∷ o) e = cond (eqb e x) 0 (suc (place o e))
 -- the order puts a earlier than b: a comes first
 abbrev pub Precedes : List ℕ → ℕ → ℕ → Type 0
 Precedes o a b = place o a < place o b
+
+-- the order of the file itself
+unfoldable pub fileOrder : Recording → List ℕ
+fileOrder E = picked (λ e. true) (size E)
 
 -- how often event e stands in the order
 abbrev pub occurrences : ℕ → List ℕ → ℕ

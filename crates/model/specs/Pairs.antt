@@ -1,13 +1,14 @@
--- Conflicts, race pairs, their marks, and the list (document 01, List and marks).
+-- Conflicts, race pairs, their marks, and the list (document 01, List and marks; 02, No. 2).
 -- Assumes nothing.
 use Prim.Native.Nat.{ℕ}
 use mathlib.Core.Bool.{Bool, cond, not, _&&_, _||_}
 use mathlib.Core.List.{List, [], _∷_, List·Memᴰ}
 use mathlib.Core.Logic.{_⊎_}
-use lib.Dec.{ltb, eqb}
+use lib.Dec.{eqb}
+use lib.ListN.{length}
 use Rattle.model.specs.declared.Event.{Event}
-use Rattle.model.specs.Numbers.{each}
-use Rattle.model.specs.Recording.{Recording, size, cells, event, objectOf, read, write}
+use Rattle.model.specs.Numbers.{each, flatMap, flatMapTails, picked}
+use Rattle.model.specs.Recording.{Recording, tasks, cells, event, eventIn, objectOf, ofTask, read, write}
 use Rattle.model.specs.Vectors.{Vectors, unordered}
 use Rattle.model.specs.Passes.{safeVectors}
 use Rattle.model.specs.Recorded.{recorded}
@@ -23,15 +24,15 @@ isAccess v = eqb (v .kind) read || isWrite v
 unfoldable pub conflict : Event → Event → Bool
 conflict v w = isAccess v && isAccess w && eqb (v .object) (w .object) && not (eqb (v .task) (w .task)) && (isWrite v || isWrite w)
 
--- a race pair: a conflicting pair, its lower event first, that the safe vectors X do not order
+-- a race pair: a conflicting pair that the safe vectors X do not order
 unfoldable pub racePair : Recording → Vectors → ℕ → ℕ → Bool
-racePair E X a b = ltb a b && conflict (event E a) (event E b) && unordered (E .events) X a b
+racePair E X a b = conflict (event E a) (event E b) && unordered (E .events) X a b
 
 -- its mark: 1 (sure) where the recorded vectors R do not order it either, else 0 (open)
 unfoldable pub mark : Recording → Vectors → ℕ → ℕ → ℕ
 mark E R a b = cond (unordered (E .events) R a b) 1 0
 
--- an entry of the list: lower event, higher event, mark
+-- an entry of the list: the event of the lower task, that of the higher task, mark
 pub record Entry : Type 0 where
   pub first : ℕ
   pub second : ℕ
@@ -44,31 +45,45 @@ entry E R a b = record { first = a; second = b; mark = mark E R a b }
 abbrev pub pairAt : Recording → Vectors → Vectors → ℕ → ℕ → List Entry
 pairAt E X R a b = cond (racePair E X a b) (entry E R a b ∷ []) []
 
--- the entries with the lower event a, by higher event
-unfoldable pub entriesOf : Recording → Vectors → Vectors → ℕ → List Entry
-entriesOf E X R a = each (pairAt E X R a) (size E)
+-- the entries of a with these events, in their order
+unfoldable pub entriesOf : Recording → Vectors → Vectors → ℕ → List ℕ → List Entry
+entriesOf E X R a behind = flatMap (pairAt E X R a) behind
 
 -- these, where the object of a is c
-abbrev pub rowAt : Recording → Vectors → Vectors → ℕ → ℕ → List Entry
-rowAt E X R c a = cond (eqb (objectOf E a) c) (entriesOf E X R a) []
+abbrev pub rowAt : Recording → Vectors → Vectors → ℕ → ℕ → List ℕ → List Entry
+rowAt E X R c a behind = cond (eqb (objectOf E a) c) (entriesOf E X R a behind) []
 
--- the entries of cell c, by lower event
-unfoldable pub cellEntries : Recording → Vectors → Vectors → ℕ → List Entry
-cellEntries E X R c = each (rowAt E X R c) (size E)
+-- the entries of cell c: each event of an order with each one behind it
+unfoldable pub cellEntries : Recording → Vectors → Vectors → List ℕ → ℕ → List Entry
+cellEntries E X R order c = flatMapTails (rowAt E X R c) order
 
--- by cell, then lower, then higher event
+-- the entries by cell, and within a cell by an order of the events
+unfoldable pub entriesIn : Recording → Vectors → Vectors → List ℕ → List Entry
+entriesIn E X R order = each (cellEntries E X R order) (cells E)
+
+-- the events of task t by position, which is file order
+abbrev pub ownEvents : List Event → ℕ → List ℕ
+ownEvents l t = picked (λ e. ofTask t (eventIn l e)) (length l)
+
+-- the events in task order: by task, and within a task by position (document 02, No. 2)
+unfoldable pub taskOrder : List Event → ℕ → List ℕ
+taskOrder l tasks = each (ownEvents l) tasks
+
+-- by cell, lower task, its position, higher task, its position
 unfoldable pub entries : Recording → Vectors → Vectors → List Entry
-entries E X R = each (cellEntries E X R) (cells E)
+entries E X R = entriesIn E X R (taskOrder (E .events) (tasks E))
 
 -- the list of a run with a budget
 unfoldable pub listed : Recording → ℕ → List Entry
 listed E budget = entries E (safeVectors E budget) (recorded E)
 
--- the list of this budget has an entry for the events a and b, in either order, with the mark m
+-- these entries have one for the events a and b, in either order, with the mark m
+abbrev pub Among : List Entry → ℕ → ℕ → ℕ → Type 0
+Among es a b m = List·Memᴰ (record { first = a; second = b; mark = m }) es ⊎ List·Memᴰ (record { first = b; second = a; mark = m }) es
+
+-- the list of this budget has it
 abbrev pub OnList : Recording → ℕ → ℕ → ℕ → ℕ → Type 0
-OnList E a b budget m =
-    List·Memᴰ (record { first = a; second = b; mark = m }) (listed E budget)
-    ⊎ List·Memᴰ (record { first = b; second = a; mark = m }) (listed E budget)
+OnList E a b budget m = Among (listed E budget) a b m
 
 -- the entries as numbers
 unfoldable pub entryNumbers : List Entry → List ℕ

@@ -35,7 +35,7 @@ abbrev pub markWord : Bool → List ℕ
 markWord true = bytes "sure"
 markWord false = bytes "open"
 
--- the line of an entry: cell, lower event, higher event, mark
+-- the line of an entry: cell, the event of the lower task, that of the higher task, mark
 unfoldable pub entryLine : ℕ → ℕ → ℕ → ℕ → List ℕ
 entryLine cell a b m = field "cell " cell ++ field " " a ++ field " " b ++ bytes " " ++ markWord (eqb m 1) ++ bytes "\n"
 

@@ -1,4 +1,3 @@
-pub mod Each
 pub mod Chains
 pub mod Stores
 pub mod Order

@@ -12,9 +12,9 @@ use Rattle.model.specs.Recording.{Recording}
 use Rattle.model.specs.Vectors.{Vectors}
 use Rattle.model.specs.Pairs.{racePair, mark, Entry, entryNumbers, pairAt}
 use Rattle.model.proofs.Listed.{numbers-length}
-use Rattle.vectors.proofs.Stores.{sets-append, sets-front}
+use Rattle.model.proofs.Each.{each-more, each-count, each-longer}
+use Rattle.model.proofs.Stores.{sets-append, sets-front}
 use Rattle.pairs.specs.Lent.{Stored, WrittenList}
-use Rattle.pairs.proofs.Each.{each-more, each-count, each-longer}
 use Rattle.pairs.proofs.Race.{pair-hit}
 
 numbers-append : (es fs : List Entry) → entryNumbers (es ++ fs) ≡ entryNumbers es ++ entryNumbers fs

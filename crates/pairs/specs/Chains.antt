@@ -1,35 +1,36 @@
--- The accesses of each cell, gathered once in a chain.
+-- The accesses of each cell, gathered once in a chain of their places in an order.
 -- Assumes nothing.
 use Prim.Native.Nat.{ℕ, _<_}
 use mathlib.Core.Path.{_≡_}
 use mathlib.Core.Bool.{Bool, true, _&&_}
 use mathlib.Core.List.{List}
 use lib.Dec.{eqb}
-use lib.ListN.{length}
+use lib.ListN.{length, getD}
 use Rattle.model.specs.declared.Event.{Event}
 use Rattle.model.specs.File.{eventsOf}
 use Rattle.model.specs.Pairs.{isAccess}
-use Rattle.events.specs.Chains.{Nearest as NearestOf, Chained as ChainedOf}
+use Rattle.events.specs.Chains.{Along, Nearest as NearestOf, Chained as ChainedOf}
 use Rattle.model.specs.Recording.{eventIn}
 
 -- an access of cell x
 abbrev pub isAccessOf : ℕ → Event → Bool
 isAccessOf x v = isAccess v && eqb (v .object) x
 
--- event i of the record bytes s accesses cell x
-abbrev pub accessOf : List ℕ → ℕ → ℕ → Bool
-accessOf s x i = isAccessOf x (eventIn (eventsOf s) i)
+-- the event at place i of an order accesses cell x
+abbrev pub accessOf : List ℕ → List ℕ → ℕ → ℕ → Bool
+accessOf s order x i = isAccessOf x (eventIn (eventsOf s) (getD order i 0))
 
--- from m on the nearest access of cell x is b; the number of events where there is none
-abbrev pub Nearest : List ℕ → ℕ → ℕ → ℕ → Type 0
-Nearest s x m b = NearestOf (accessOf s x) (length (eventsOf s)) m b
+-- from m on the nearest place of an access of cell x is j; the length of the order where there is none
+abbrev pub Nearest : List ℕ → List ℕ → ℕ → ℕ → ℕ → Type 0
+Nearest s order x m j = NearestOf (accessOf s order x) (length order) m j
 
--- the chains of the accesses of the cells below k
-abbrev pub Chained : List ℕ → ℕ → List ℕ → Type 0
-Chained s k chain = ChainedOf (accessOf s) (length (eventsOf s)) k 0 chain
+-- an order of events, and the chains of the accesses of the cells below k along it
+pub record Linked (s order : List ℕ) (k : ℕ) (chain : List ℕ) : Type 0 where
+  pub along : Along s order
+  pub chained : ChainedOf (accessOf s order) (length order) k 0 chain
 
--- event a stands in the chain of its cell, which is below k
-pub record InChain (s : List ℕ) (k a : ℕ) : Type 0 where
-  pub numbered : a < length (eventsOf s)
-  pub cell : eventIn (eventsOf s) a .object < k
-  pub access : accessOf s (eventIn (eventsOf s) a .object) a ≡ true
+-- the event at place i stands in the chain of its cell, which is below k
+pub record InChain (s order : List ℕ) (k i : ℕ) : Type 0 where
+  pub placed : i < length order
+  pub cell : eventIn (eventsOf s) (getD order i 0) .object < k
+  pub access : accessOf s order (eventIn (eventsOf s) (getD order i 0) .object) i ≡ true

@@ -6,12 +6,13 @@ ghost use lib.ListN.{length};
 ghost use lib.Seq.{sets};
 ghost use Rattle.model.specs.File.{recordingBy, eventsOf};
 ghost use Rattle.model.specs.Vectors.{unordered};
-ghost use Rattle.model.specs.Pairs.{isAccess, isWrite, conflict, racePair, mark, pairAt, entriesOf, cellEntries, entries};
+ghost use Rattle.model.specs.Pairs.{isAccess, isWrite, conflict, racePair, mark, pairAt, cellEntries, entriesIn, entries};
 ghost use Rattle.model.specs.Question.{relationBy};
 ghost use Rattle.model.specs.Reading.{mostCells};
 ghost use Rattle.passes.specs.Lent.{vectorsIn, Fitting, Numbered, Placed};
-ghost use Rattle.pairs.specs.Chains.{Chained, InChain};
-ghost use Rattle.pairs.specs.Lent.{over, HowMany, Lent, Stored, WrittenList};
+ghost use Rattle.events.specs.Chains.{Along};
+ghost use Rattle.pairs.specs.Chains.{Linked, InChain};
+ghost use Rattle.pairs.specs.Lent.{over, rowOf, HowMany, Lent, Stored, WrittenList};
 use events::CHAINS;
 use model::Counts;
 use model::Event;
@@ -62,7 +63,7 @@ fn unordered(
         & !passes::ordered(records, counts, positions, v, b, a)
 }
 
-// Whether a and b, the lower first, are a race pair by the safe vectors.
+// Whether a and b are a race pair by the safe vectors.
 fn race_pair(
     records: &[u8],
     counts: Counts,
@@ -72,7 +73,7 @@ fn race_pair(
     b: usize,
 ) -> bool
     requires { ⌜ Placed (now records) counts (now positions) × Fitting (now records) counts (now safe) ⌝ }
-    requires { ⌜ (a < b) × Numbered (now records) b ⌝ }
+    requires { ⌜ Numbered (now records) a × Numbered (now records) b ⌝ }
     ensures { λ r. ⌜ r ≡ racePair (recordingBy (now (records .entry)) counts []) (vectorsIn (now (records .entry)) counts (now (safe .entry))) a b ⌝ }
 {
     let v = events::event_at(records, a);
@@ -113,7 +114,7 @@ fn count_pair(
     b: usize,
 ) -> usize
     requires { ⌜ Placed (now records) counts (now positions) × Fitting (now records) counts (now safe) ⌝ }
-    requires { ⌜ (a < b) × Numbered (now records) b ⌝ }
+    requires { ⌜ Numbered (now records) a × Numbered (now records) b ⌝ }
     ensures { λ r. ⌜ HowMany (λ E X R. pairAt E X R a b) (now (records .entry)) counts (now (safe .entry)) r ⌝ }
 {
     if race_pair(records, counts, positions, safe, a, b) {
@@ -123,25 +124,29 @@ fn count_pair(
     }
 }
 
-// How many entries have the lower event a, an access: those with the events behind it in its chain.
+// How many entries the event at place i of the order, an access, has with those behind it: with the events behind it in its
+// chain.
 fn count_row(
     records: &[u8],
     counts: Counts,
     positions: &[u16],
+    order: &[u16],
     chain: &[u16; CHAINS],
     safe: &[u16],
-    a: usize,
+    i: usize,
 ) -> usize
     requires { ⌜ Placed (now records) counts (now positions) × Fitting (now records) counts (now safe) ⌝ }
-    requires { ⌜ Chained (now records) (counts .cells) (now chain) × InChain (now records) (counts .cells) a ⌝ }
-    ensures { λ r. ⌜ HowMany (λ E X R. entriesOf E X R a) (now (records .entry)) counts (now (safe .entry)) r ⌝ }
+    requires { ⌜ Linked (now records) (now order) (counts .cells) (now chain) × InChain (now records) (now order) (counts .cells) i ⌝ }
+    ensures { λ r. ⌜ HowMany (λ E X R. rowOf E X R (now (order .entry)) i) (now (records .entry)) counts (now (safe .entry)) r ⌝ }
 {
-    let n = records.len() / 4;
+    let n = order.len();
+    let a = events::at_place(order, i);
     let mut pairs: usize = 0;
-    let mut b = chain[a] as usize;
-    while b < n {
+    let mut j = chain[i] as usize;
+    while j < n {
+        let b = events::at_place(order, j);
         pairs += count_pair(records, counts, positions, safe, a, b);
-        b = chain[b] as usize;
+        j = chain[j] as usize;
     }
     pairs
 }
@@ -151,20 +156,21 @@ fn count_cell(
     records: &[u8],
     counts: Counts,
     positions: &[u16],
+    order: &[u16],
     chain: &[u16; CHAINS],
     safe: &[u16],
     cell: u16,
 ) -> usize
     requires { ⌜ Placed (now records) counts (now positions) × Fitting (now records) counts (now safe) ⌝ }
-    requires { ⌜ Chained (now records) (counts .cells) (now chain) × (cell < counts .cells) × (counts .cells ≤ mostCells) ⌝ }
-    ensures { λ r. ⌜ HowMany (λ E X R. cellEntries E X R cell) (now (records .entry)) counts (now (safe .entry)) r ⌝ }
+    requires { ⌜ Linked (now records) (now order) (counts .cells) (now chain) × (cell < counts .cells) × (counts .cells ≤ mostCells) ⌝ }
+    ensures { λ r. ⌜ HowMany (λ E X R. cellEntries E X R (now (order .entry)) cell) (now (records .entry)) counts (now (safe .entry)) r ⌝ }
 {
-    let n = records.len() / 4;
+    let n = order.len();
     let mut pairs: usize = 0;
-    let mut a = chain[MOST_EVENTS + (cell as usize)] as usize;
-    while a < n {
-        pairs += count_row(records, counts, positions, chain, safe, a);
-        a = chain[a] as usize;
+    let mut i = chain[MOST_EVENTS + (cell as usize)] as usize;
+    while i < n {
+        pairs += count_row(records, counts, positions, order, chain, safe, i);
+        i = chain[i] as usize;
     }
     pairs
 }
@@ -174,18 +180,19 @@ fn count(
     records: &[u8],
     counts: Counts,
     positions: &[u16],
+    order: &[u16],
     chain: &[u16; CHAINS],
     safe: &[u16],
 ) -> usize
     requires { ⌜ Placed (now records) counts (now positions) × Fitting (now records) counts (now safe) ⌝ }
-    requires { ⌜ Chained (now records) (counts .cells) (now chain) × (counts .cells ≤ mostCells) ⌝ }
-    ensures { λ r. ⌜ HowMany entries (now (records .entry)) counts (now (safe .entry)) r ⌝ }
+    requires { ⌜ Linked (now records) (now order) (counts .cells) (now chain) × (counts .cells ≤ mostCells) ⌝ }
+    ensures { λ r. ⌜ HowMany (λ E X R. entriesIn E X R (now (order .entry))) (now (records .entry)) counts (now (safe .entry)) r ⌝ }
 {
     let cells = counts.cells;
     let mut pairs: usize = 0;
     let mut cell: u16 = 0;
     while cell < cells {
-        pairs += count_cell(records, counts, positions, chain, safe, cell);
+        pairs += count_cell(records, counts, positions, order, chain, safe, cell);
         cell += 1;
     }
     pairs
@@ -213,7 +220,7 @@ fn list_pair(
     out: &mut [u16],
     p: usize,
 ) -> usize
-    requires { ⌜ Lent (now records) counts (now positions) (now safe) (now recorded) × (a < b) × Numbered (now records) b ⌝ }
+    requires { ⌜ Lent (now records) counts (now positions) (now safe) (now recorded) × Numbered (now records) a × Numbered (now records) b ⌝ }
     requires { ⌜ p + 3 * length (over pairAt (now records) counts (now safe) (now recorded) a b) ≤ length (now out) ⌝ }
     ensures { λ r. ⌜ Stored (now (out .entry)) p (over pairAt (now (records .entry)) counts (now (safe .entry)) (now (recorded .entry)) a b) (now (out .exit)) r ⌝ }
 {
@@ -225,28 +232,32 @@ fn list_pair(
     p + 3
 }
 
-// Writes the entries with the lower event a, an access, from place p on. Answers the place after them.
+// Writes the entries of the event at place i of the order, an access, with those behind it, from place p on. Answers the place
+// after them.
 fn list_row(
     records: &[u8],
     counts: Counts,
     positions: &[u16],
+    order: &[u16],
     chain: &[u16; CHAINS],
     safe: &[u16],
     recorded: &[u16],
-    a: usize,
+    i: usize,
     out: &mut [u16],
     p: usize,
 ) -> usize
-    requires { ⌜ Lent (now records) counts (now positions) (now safe) (now recorded) × Chained (now records) (counts .cells) (now chain) × InChain (now records) (counts .cells) a ⌝ }
-    requires { ⌜ p + 3 * length (over entriesOf (now records) counts (now safe) (now recorded) a) ≤ length (now out) ⌝ }
-    ensures { λ r. ⌜ Stored (now (out .entry)) p (over entriesOf (now (records .entry)) counts (now (safe .entry)) (now (recorded .entry)) a) (now (out .exit)) r ⌝ }
+    requires { ⌜ Lent (now records) counts (now positions) (now safe) (now recorded) × Linked (now records) (now order) (counts .cells) (now chain) × InChain (now records) (now order) (counts .cells) i ⌝ }
+    requires { ⌜ p + 3 * length (over rowOf (now records) counts (now safe) (now recorded) (now order) i) ≤ length (now out) ⌝ }
+    ensures { λ r. ⌜ Stored (now (out .entry)) p (over rowOf (now (records .entry)) counts (now (safe .entry)) (now (recorded .entry)) (now (order .entry)) i) (now (out .exit)) r ⌝ }
 {
-    let n = records.len() / 4;
+    let n = order.len();
+    let a = events::at_place(order, i);
     let mut next = p;
-    let mut b = chain[a] as usize;
-    while b < n {
+    let mut j = chain[i] as usize;
+    while j < n {
+        let b = events::at_place(order, j);
         next = list_pair(records, counts, positions, safe, recorded, a, b, out, next);
-        b = chain[b] as usize;
+        j = chain[j] as usize;
     }
     next
 }
@@ -256,6 +267,7 @@ fn list_cell(
     records: &[u8],
     counts: Counts,
     positions: &[u16],
+    order: &[u16],
     chain: &[u16; CHAINS],
     safe: &[u16],
     recorded: &[u16],
@@ -263,26 +275,27 @@ fn list_cell(
     out: &mut [u16],
     p: usize,
 ) -> usize
-    requires { ⌜ Lent (now records) counts (now positions) (now safe) (now recorded) × Chained (now records) (counts .cells) (now chain) × (cell < counts .cells) ⌝ }
-    requires { ⌜ p + 3 * length (over cellEntries (now records) counts (now safe) (now recorded) cell) ≤ length (now out) ⌝ }
-    ensures { λ r. ⌜ Stored (now (out .entry)) p (over cellEntries (now (records .entry)) counts (now (safe .entry)) (now (recorded .entry)) cell) (now (out .exit)) r ⌝ }
+    requires { ⌜ Lent (now records) counts (now positions) (now safe) (now recorded) × Linked (now records) (now order) (counts .cells) (now chain) × (cell < counts .cells) ⌝ }
+    requires { ⌜ p + 3 * length (over cellEntries (now records) counts (now safe) (now recorded) (now order) cell) ≤ length (now out) ⌝ }
+    ensures { λ r. ⌜ Stored (now (out .entry)) p (over cellEntries (now (records .entry)) counts (now (safe .entry)) (now (recorded .entry)) (now (order .entry)) cell) (now (out .exit)) r ⌝ }
 {
-    let n = records.len() / 4;
+    let n = order.len();
     let mut next = p;
-    let mut a = chain[MOST_EVENTS + (cell as usize)] as usize;
-    while a < n {
+    let mut i = chain[MOST_EVENTS + (cell as usize)] as usize;
+    while i < n {
         next = list_row(
             records,
             counts,
             positions,
+            order,
             chain,
             safe,
             recorded,
-            a,
+            i,
             out,
             next,
         );
-        a = chain[a] as usize;
+        i = chain[i] as usize;
     }
     next
 }
@@ -292,15 +305,16 @@ fn list_all(
     records: &[u8],
     counts: Counts,
     positions: &[u16],
+    order: &[u16],
     chain: &[u16; CHAINS],
     safe: &[u16],
     recorded: &[u16],
     out: &mut [u16],
     p: usize,
 ) -> usize
-    requires { ⌜ Lent (now records) counts (now positions) (now safe) (now recorded) × Chained (now records) (counts .cells) (now chain) ⌝ }
-    requires { ⌜ p + 3 * length (over entries (now records) counts (now safe) (now recorded)) ≤ length (now out) ⌝ }
-    ensures { λ r. ⌜ Stored (now (out .entry)) p (over entries (now (records .entry)) counts (now (safe .entry)) (now (recorded .entry))) (now (out .exit)) r ⌝ }
+    requires { ⌜ Lent (now records) counts (now positions) (now safe) (now recorded) × Linked (now records) (now order) (counts .cells) (now chain) ⌝ }
+    requires { ⌜ p + 3 * length (over entriesIn (now records) counts (now safe) (now recorded) (now order)) ≤ length (now out) ⌝ }
+    ensures { λ r. ⌜ Stored (now (out .entry)) p (over entriesIn (now (records .entry)) counts (now (safe .entry)) (now (recorded .entry)) (now (order .entry))) (now (out .exit)) r ⌝ }
 {
     let cells = counts.cells;
     let mut next = p;
@@ -310,6 +324,7 @@ fn list_all(
             records,
             counts,
             positions,
+            order,
             chain,
             safe,
             recorded,
@@ -328,29 +343,66 @@ pub struct Listed {
     pub pairs: usize,
 }
 
-// The same as `list`, with the chains at hand: counts first, so that nothing is written where there is no room.
+// Writes the list along an order, with its chains at hand: counts first, so that nothing is written where there is no room.
 fn list_chained(
     records: &[u8],
     counts: Counts,
     positions: &[u16],
+    order: &[u16],
     chain: &[u16; CHAINS],
     safe: &[u16],
     recorded: &[u16],
     out: &mut [u16],
 ) -> Listed
-    requires { ⌜ Lent (now records) counts (now positions) (now safe) (now recorded) × Chained (now records) (counts .cells) (now chain) ⌝ }
-    ensures { λ r. ⌜ WrittenList (over entries (now (records .entry)) counts (now (safe .entry)) (now (recorded .entry))) (now (out .entry)) (now (out .exit)) (r .fits) (r .pairs) ⌝ }
+    requires { ⌜ Lent (now records) counts (now positions) (now safe) (now recorded) × Linked (now records) (now order) (counts .cells) (now chain) ⌝ }
+    ensures { λ r. ⌜ WrittenList (over entriesIn (now (records .entry)) counts (now (safe .entry)) (now (recorded .entry)) (now (order .entry))) (now (out .entry)) (now (out .exit)) (r .fits) (r .pairs) ⌝ }
 {
-    let pairs = count(records, counts, positions, chain, safe);
+    let pairs = count(records, counts, positions, order, chain, safe);
     if out.len() < 3 * pairs {
         return Listed { fits: false, pairs };
     }
-    list_all(records, counts, positions, chain, safe, recorded, out, 0);
+    list_all(
+        records,
+        counts,
+        positions,
+        order,
+        chain,
+        safe,
+        recorded,
+        out,
+        0,
+    );
     Listed { fits: true, pairs }
 }
 
-// Writes the list of the race pairs, or leaves `out` as it was where they do not fit. Each cell's accesses are gathered in a
-// chain first, so that only they are looked at for each other.
+// The list along an order of the events. Each cell's accesses are gathered in a chain first, so that only they are looked at for
+// each other.
+fn list_in(
+    records: &[u8],
+    counts: Counts,
+    positions: &[u16],
+    order: &[u16],
+    safe: &[u16],
+    recorded: &[u16],
+    out: &mut [u16],
+) -> Listed
+    requires { ⌜ Lent (now records) counts (now positions) (now safe) (now recorded) × Along (now records) (now order) ⌝ }
+    ensures { λ r. ⌜ WrittenList (over entriesIn (now (records .entry)) counts (now (safe .entry)) (now (recorded .entry)) (now (order .entry))) (now (out .entry)) (now (out .exit)) (r .fits) (r .pairs) ⌝ }
+{
+    let chain = events::gather_in(records, order, READ, WRITE, counts.cells);
+    list_chained(
+        records,
+        counts,
+        positions,
+        order,
+        &chain,
+        safe,
+        recorded,
+        out,
+    )
+}
+
+// Writes the list of the race pairs in task order, or leaves `out` as it was where they do not fit.
 pub fn list(
     records: &[u8],
     counts: Counts,
@@ -362,8 +414,9 @@ pub fn list(
     requires { ⌜ Lent (now records) counts (now positions) (now safe) (now recorded) ⌝ }
     ensures { λ r. ⌜ WrittenList (over entries (now (records .entry)) counts (now (safe .entry)) (now (recorded .entry))) (now (out .entry)) (now (out .exit)) (r .fits) (r .pairs) ⌝ }
 {
-    let chain = events::gather(records, READ, WRITE, counts.cells);
-    list_chained(records, counts, positions, &chain, safe, recorded, out)
+    let order = events::task_order(records, counts.tasks);
+    let n = records.len() / 4;
+    list_in(records, counts, positions, &order[..n], safe, recorded, out)
 }
 
 // How events a and b stand to each other.

@@ -13,7 +13,7 @@ use Rattle.model.specs.Vectors.{position, flat, start}
 use Rattle.model.proofs.Climb.{start-shaped}
 use Rattle.vectors.specs.Rows.{ownRow}
 use Rattle.vectors.proofs.Chunks.{own-length, flat-length}
-use Rattle.vectors.proofs.Stores.{sets-append, sets-front}
+use Rattle.model.proofs.Stores.{sets-append, sets-front}
 use Rattle.passes.specs.Steps.{firstRow}
 
 -- the rows of event e and of all that follow

@@ -11,6 +11,7 @@ use lib.Dec.{leb}
 use lib.ListN.{length, getD, set, take, drop, length-append, length-set, length-take, take-append-drop, drop-of-length-le}
 use lib.Seq.{sets, sets-eq, length-sets, set-out, take-all, take-suc, length-take-le}
 use Rattle.model.proofs.Tests.{cases, leb-true, leb-false}
+use Rattle.model.proofs.Stores.{sets-append}
 use Rattle.model.specs.Report.{laid, filling}
 use Rattle.printing.specs.Output.{Put}
 
@@ -19,11 +20,6 @@ use Rattle.printing.specs.Output.{Put}
 sets-past : (vs l : List ℕ) (i : ℕ) → length l ≤ i → sets l i vs ≡ l
 sets-past [] l i h = refl
 sets-past (v ∷ vs) l i h = rw (set-out l i v h) (sets-past vs l (suc i) (omega arith))
-
-sets-append : (xs ys l : List ℕ) (i : ℕ) → sets l i (xs ++ ys) ≡ sets (sets l i xs) (i + length xs) ys
-sets-append [] ys l i = rw (add-zero i)
-sets-append (x ∷ xs) ys l i =
-    let e : suc i + length xs ≡ i + length (x ∷ xs) = omega arith in rw (sym e) (sets-append xs ys (set l i x) (suc i))
 
 -- ---- the lesser of two numbers
 

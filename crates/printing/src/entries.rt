@@ -24,9 +24,9 @@ fn put_nth(out: &mut [u8], at: usize, records: &[u8], list: &[u16], i: usize) ->
     ensures { λ r. ⌜ Put (now (out .entry)) (now (out .exit)) at (nthLine (now (records .entry)) (now (list .entry)) i) r ⌝ }
 {
     let k = 3 * i;
-    let low = list[k];
-    let cell = cell_of(records, low);
-    put_entry(out, at, cell, low, list[k + 1], list[k + 2])
+    let first = list[k];
+    let cell = cell_of(records, first);
+    put_entry(out, at, cell, first, list[k + 1], list[k + 2])
 }
 
 pub fn put_entries(out: &mut [u8], at: usize, records: &[u8], list: &[u16], pairs: usize) -> usize

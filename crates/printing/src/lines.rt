@@ -60,13 +60,13 @@ pub fn put_result(
     put_text(out, f, b"\n")
 }
 
-pub fn put_entry(out: &mut [u8], at: usize, cell: u16, low: u16, high: u16, mark: u16) -> usize
+pub fn put_entry(out: &mut [u8], at: usize, cell: u16, first: u16, second: u16, mark: u16) -> usize
     requires { ⌜ at ≤ length (now out) ⌝ }
-    ensures { λ r. ⌜ Put (now (out .entry)) (now (out .exit)) at (entryLine cell low high mark) r ⌝ }
+    ensures { λ r. ⌜ Put (now (out .entry)) (now (out .exit)) at (entryLine cell first second mark) r ⌝ }
 {
     let a = put_field(out, at, b"cell ", cell as usize);
-    let b = put_field(out, a, b" ", low as usize);
-    let c = put_field(out, b, b" ", high as usize);
+    let b = put_field(out, a, b" ", first as usize);
+    let c = put_field(out, b, b" ", second as usize);
     let d = put_text(out, c, b" ");
     let e = put_mark(out, d, mark);
     put_text(out, e, b"\n")

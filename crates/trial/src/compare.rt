@@ -398,17 +398,21 @@ fn same_digits(list: &[u16], text: &[u8]) -> bool {
     true
 }
 
-// The library settles in so many passes, and lists these entries, a digit for each number.
-pub(crate) fn lists(file: &[u8], made: u32, entries: &[u8]) -> bool {
+// The library makes so many passes, settles unless they are the whole budget, and lists these entries, a
+// digit for each number.
+pub(crate) fn lists(file: &[u8], budget: u32, made: u32, entries: &[u8]) -> bool {
     let mut work = [0u16; 256];
     let mut list = [0u16; 64];
-    match analysis::analyse(file, 4294967295, &mut work, &mut list) {
+    match analysis::analyse(file, budget, &mut work, &mut list) {
         Analysis::Done {
             passes,
             settled,
             pairs,
         } => {
-            passes == made && settled && pairs == entries.len() / 3 && same_digits(&list, entries)
+            passes == made
+                && settled == (made < budget)
+                && pairs == entries.len() / 3
+                && same_digits(&list, entries)
         }
         Analysis::Refused(_) => false,
     }

@@ -5,6 +5,7 @@ use crate::bytes::up_by;
 use crate::compare;
 use crate::make;
 use crate::make::Shape;
+use crate::ordered;
 use crate::tries::count;
 use crate::tries::say;
 use crate::tries::try_printing;
@@ -89,15 +90,16 @@ fn try_made(start: u32, seed: &mut u32, s: Shape, damaged: bool, all: bool) -> u
     try_one(total, file, budget, which)
 }
 
-// One size for analysing and one for writing.
-fn try_one(total: u32, file: &[u8], budget: u32, which: u32) -> u32 {
+// One size for analysing and one for writing, and the order of the list.
+pub(crate) fn try_one(total: u32, file: &[u8], budget: u32, which: u32) -> u32 {
     let slots = compare::list_needed(file, budget);
     let one = count(
         total,
         compare::sized_analysis_agrees(file, budget, slots, which % 6),
         file,
     );
-    count(one, writing::sized_writing_agrees(file, which % 10), file)
+    let written = count(one, writing::sized_writing_agrees(file, which % 10), file);
+    count(written, ordered::in_task_order(file, budget), file)
 }
 
 fn try_asked(start: u32, seed: &mut u32, s: Shape) -> u32 {

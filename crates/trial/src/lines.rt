@@ -77,7 +77,7 @@ fn put_head(out: &mut [u8], r: second::Reading, o: second::Findings) -> u32 {
 }
 
 // The object of a record.
-fn object_of(records: &[u8], e: u16) -> u32 {
+pub(crate) fn object_of(records: &[u8], e: u16) -> u32 {
     let i = e as usize * 4;
     byte(records, i + 2) as u32 + byte(records, i + 3) as u32 * 256
 }

@@ -1,12 +1,14 @@
-// The trial: worked recordings, edge files and generated recordings, with the library and the second
-// analyser compared in everything. Each group prints how many comparisons it made, and each file at
-// which the two differ. Groups are of edition 1 unless their name says otherwise.
+// The trial: worked recordings, edge files, jobs recorded in several orders and generated recordings,
+// with the library and the second analyser compared in everything. Each group prints how many
+// comparisons it made, and each file at which the two differ. Groups are of edition 1 unless their name
+// says otherwise.
 mod bytes;
 mod compare;
 mod edges;
 mod generated;
 mod lines;
 mod make;
+mod ordered;
 mod refusals;
 mod tries;
 mod worked;
@@ -65,6 +67,8 @@ fn try_by_hand() {
     worked::try_lives();
     worked::try_waits();
     worked::try_pairs();
+    worked::try_task_order();
+    worked::try_recorded_orders();
     worked::try_start_rows();
     worked::try_start_waits();
     worked::try_start_matches();
@@ -109,6 +113,8 @@ fn try_edition_two() {
 
 fn main() {
     try_by_hand();
+    ordered::try_shuffled();
+    ordered::try_wide();
     try_edition_one();
     try_edition_two();
 }

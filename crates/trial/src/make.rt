@@ -19,10 +19,10 @@ pub(crate) struct Shape {
     pub(crate) edition: u16,
 }
 
-struct Draft {
-    task: u16,
-    kind: u16,
-    object: u16,
+pub(crate) struct Draft {
+    pub(crate) task: u16,
+    pub(crate) kind: u16,
+    pub(crate) object: u16,
 }
 
 // What has happened, by semaphore or by task: what a wait can take, of the start count and of signals;
@@ -143,7 +143,7 @@ pub(crate) fn place(preamble: u16, n: u16) -> u32 {
     preamble as u32 + n as u32 * 4
 }
 
-fn put_record(file: &mut [u8], i: u32, d: Draft) {
+pub(crate) fn put_record(file: &mut [u8], i: u32, d: Draft) {
     put_byte(file, i as usize, (d.task % 256) as u8);
     put_byte(file, up_by(i, 1) as usize, (d.kind % 256) as u8);
     put_word(file, up_by(i, 2), d.object);

@@ -147,7 +147,7 @@ pub(crate) fn try_sent_orders() {
 
 // ---- numbers of start bytes, and lengths of the output
 
-// An empty recording written with so many start bytes lent.
+// An empty recording written with these start bytes lent.
 fn try_lent(start: u32, semaphores: u16, edition: u16, starts: &[u8], number: u16) -> u32 {
     let c = Counts {
         tasks: 1,
@@ -171,20 +171,28 @@ fn try_numbers(start: u32, semaphores: u16, edition: u16, right: u32) -> u32 {
     total
 }
 
+// An empty recording written with the first n of many start bytes.
+fn try_many(start: u32, semaphores: u16, edition: u16, n: usize, number: u16) -> u32 {
+    let bytes = [1u8; 65537];
+    if 65537 < n {
+        return start;
+    }
+    try_lent(start, semaphores, edition, &bytes[0..n], number)
+}
+
 // Numbers of start bytes that are right only where they wrap, and semaphores past their end.
 fn try_misfits(start: u32) -> u32 {
-    let bytes = [1u8; 65537];
     let mut total = start;
-    total = try_lent(total, 0, 2, &bytes[0..256], 13);
-    total = try_lent(total, 1, 2, &bytes[0..257], 13);
-    total = try_lent(total, 0, 1, &bytes[0..65536], 13);
-    total = try_lent(total, 0, 2, &bytes[0..65536], 13);
-    total = try_lent(total, 1, 2, &bytes, 13);
-    total = try_lent(total, 65, 1, &bytes[0..0], 4);
-    total = try_lent(total, 65, 2, &bytes[0..0], 4);
-    total = try_lent(total, 65, 2, &bytes[0..64], 4);
-    total = try_lent(total, 65, 2, &bytes[0..65], 4);
-    try_lent(total, 65535, 2, &bytes[0..65535], 4)
+    total = try_many(total, 0, 2, 256, 13);
+    total = try_many(total, 1, 2, 257, 13);
+    total = try_many(total, 0, 1, 65536, 13);
+    total = try_many(total, 0, 2, 65536, 13);
+    total = try_many(total, 1, 2, 65537, 13);
+    total = try_many(total, 65, 1, 0, 4);
+    total = try_many(total, 65, 2, 0, 4);
+    total = try_many(total, 65, 2, 64, 4);
+    total = try_many(total, 65, 2, 65, 4);
+    try_many(total, 65535, 2, 65535, 4)
 }
 
 // How many start bytes each edition takes.

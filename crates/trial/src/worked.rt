@@ -144,7 +144,29 @@ fn try_started(
     try_recording(start, s, &[first], number, record, text)
 }
 
-// The same, which settles in so many passes and lists these entries, a digit for each number.
+// A recording of this shape: with this budget it makes so many passes and lists these entries, a digit
+// for each number.
+fn try_entries(
+    start: u32,
+    s: Shape,
+    starts: &[u8],
+    text: &[u8],
+    budget: u32,
+    passes: u32,
+    entries: &[u8],
+) -> u32 {
+    let mut bytes = [0u8; 400];
+    let length = put_recording(&mut bytes, s, starts, text);
+    if 400 < length {
+        return start;
+    }
+    let file = &bytes[0..length as usize];
+    let total = count(start, compare::lists(file, budget, passes, entries), file);
+    try_whole(total, file)
+}
+
+// A recording in edition 2 with one semaphore of this start count, which settles in so many passes and
+// lists these entries.
 fn try_listed(
     start: u32,
     tasks: u16,
@@ -154,15 +176,20 @@ fn try_listed(
     passes: u32,
     entries: &[u8],
 ) -> u32 {
-    let mut bytes = [0u8; 400];
     let s = make::empty_shape(tasks, 1, cells, 2);
-    let length = put_recording(&mut bytes, s, &[first], text);
-    if 400 < length {
-        return start;
-    }
-    let file = &bytes[0..length as usize];
-    let total = count(start, compare::lists(file, passes, entries), file);
-    try_whole(total, file)
+    try_entries(start, s, &[first], text, 4294967295, passes, entries)
+}
+
+// A recording in edition 1 with three tasks, one semaphore and two cells: its entries with no pass.
+fn try_unraised(start: u32, text: &[u8], entries: &[u8]) -> u32 {
+    let s = make::empty_shape(3, 1, 2, 1);
+    try_entries(start, s, b"", text, 0, 0, entries)
+}
+
+// The same once it settles, in so many passes.
+fn try_settled(start: u32, text: &[u8], passes: u32, entries: &[u8]) -> u32 {
+    let s = make::empty_shape(3, 1, 2, 1);
+    try_entries(start, s, b"", text, 4294967295, passes, entries)
 }
 
 // A recording of this shape, and what is printed of it.
@@ -309,11 +336,44 @@ pub(crate) fn try_pairs() {
     total = try_text(total, 1, 0, 1, 0, 0, b"0R0 0W0");
     // two cells
     total = try_text(total, 2, 0, 2, 0, 0, b"0W0 1W1");
-    // by cell, then lower, then higher event
+    // by cell, then lower task, then higher task
     total = try_text(total, 3, 0, 2, 0, 0, b"0W1 0W0 1W0 1W1 2R0 2R1");
     // before a fork, between fork and join, after the join
     total = try_text(total, 2, 0, 1, 0, 0, b"0R0 0F1 1W0 0R0 0J1 0R0");
     say(b"pairs", total);
+}
+
+// The rows of request 2, and recordings in which tasks and records go in different orders.
+pub(crate) fn try_task_order() {
+    let mut total = 0;
+    // the events of G
+    let g = b"0W0 0F1 1W0 0R0 0J1 0W0";
+    total = try_unraised(total, g, b"020321520");
+    total = try_settled(total, g, 2, b"321");
+    // the last task first
+    total = try_settled(total, b"2W0 1W0 0W0", 1, b"211201101");
+    // accesses of one task between those of others
+    let between = b"1W0 0W0 1R0 2W0 0R0 1W0";
+    total = try_settled(total, between, 1, b"101121151131401451431031231531");
+    // two cells in turn, the higher first
+    total = try_settled(total, b"1W1 0W0 1R0 0W1 1W0 0R1", 1, b"121141301501");
+    // the lower task follows the higher, in this run and in every run
+    let follows = b"1W0 1S0 0P0 0S0 0R0";
+    total = try_unraised(total, follows, b"400");
+    total = try_settled(total, follows, 2, b"");
+    // the lower task follows one of two higher ones in this run
+    total = try_settled(total, b"2W0 2S0 1W0 1S0 0P0 0R0", 1, b"521500201");
+    say(b"task order", total);
+}
+
+// One job with a hand-over, in four orders of its records: the same entries by task and position.
+pub(crate) fn try_recorded_orders() {
+    let mut total = 0;
+    total = try_settled(total, b"0W0 0S0 1P0 1R0 2W0", 2, b"041341");
+    total = try_settled(total, b"0W0 0S0 2W0 1P0 1R0", 2, b"021421");
+    total = try_settled(total, b"0W0 2W0 0S0 1P0 1R0", 2, b"011411");
+    total = try_settled(total, b"2W0 0W0 0S0 1P0 1R0", 2, b"101401");
+    say(b"recorded orders", total);
 }
 
 // The rows of request 1, and B, D and F with a start count of 0.
@@ -387,7 +447,7 @@ pub(crate) fn try_prints() {
         make::empty_shape(2, 0, 1, 1),
         b"",
         b"0W0 0F1 1W0 0R0 0J1 0W0",
-        b"events 6 tasks 2 passes 2 settled yes pairs 1\ncell 0 2 3 sure\n",
+        b"events 6 tasks 2 passes 2 settled yes pairs 1\ncell 0 3 2 sure\n",
     );
     total = try_start_printed(
         total,

@@ -3,12 +3,11 @@
 use Prim.Native.Nat.{ℕ, suc, _+_, _≤_, _<_}
 use mathlib.Core.Path.{_≡_, refl, _∙_}
 use mathlib.Core.Bool.{Bool, true}
-use mathlib.Core.List.{List, [], _∷_, _++_}
-use native.Mathlib.Nat.{zero-add, add-zero}
+use mathlib.Core.List.{List, [], _∷_}
 use native.Mathlib.Numerals.{add-one}
 use native.Mathlib.Omega.{arith}
 use lib.ListN.{length, getD, set, take, drop, drop-of-length-le}
-use lib.Seq.{sets, sets-eq, drop-cons, take-suc, take-all}
+use lib.Seq.{sets, drop-cons, take-suc, take-all}
 use Rattle.model.specs.Numbers.{bit, count}
 use Rattle.model.proofs.Tests.{bit-true}
 use Rattle.model.proofs.Counting.{count-append}
@@ -20,16 +19,6 @@ sets-next v us i t y h e = rw (drop-cons us t 0 h, add-one t, add-one i, e)
 -- none is left
 pub sets-all : (v us : List ℕ) (i t : ℕ) → length us ≤ t → sets v i (drop t us) ≡ v
 sets-all v us i t h = rw (drop-of-length-le us h)
-
-pub sets-append : (us ws v : List ℕ) (i : ℕ) → sets v i (us ++ ws) ≡ sets (sets v i us) (i + length us) ws
-sets-append [] ws v i = rw (add-zero i)
-sets-append (u ∷ us) ws v i =
-    let k : i + suc (length us) ≡ suc i + length us = omega arith in
-    rw k (sets-append us ws (set v i u) (suc i))
-
--- stores from the front
-pub sets-front : (v us : List ℕ) (n : ℕ) → length us ≡ n → n ≤ length v → sets v 0 us ≡ us ++ drop n v
-sets-front v us n e h = sets-eq us v 0 (omega arith) ∙ rw (e, zero-add n)
 
 -- one number more is counted
 pub count-next : (p : ℕ → Bool) (l : List ℕ) (i : ℕ) → i < length l → count p (take (i + 1) l) ≡ count p (take i l) + bit (p (getD l i 0))

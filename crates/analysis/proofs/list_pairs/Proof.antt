@@ -18,6 +18,7 @@ list-requires c κs =
     let e = n .numbers .ensures .0 in
     record {
       placed = record { records = s .pre .0 .records; kept = s .pre .2 };
+      tasks = s .pre .0 .tasks;
       cells = s .pre .0 .cells;
       safe = first-part _ _ (omega arith) ∙ e;
       recorded = second-part _ _ (omega arith) ∙ e;

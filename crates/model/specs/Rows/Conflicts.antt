@@ -1,13 +1,11 @@
--- Conflicts and the order of the list (document 01, List and marks). Proved as `symmetric` in proofs/Listed.antt and
+-- Conflicts (document 01, List and marks). Proved as `symmetric` in proofs/Listed.antt and
 -- `conflicts` in proofs/Rows.antt. Assumes nothing.
 use Prim.Native.Nat.{ℕ}
 use mathlib.Core.Path.{_≡_}
 use mathlib.Core.Bool.{true, false}
-use mathlib.Core.List.{[], _∷_, _++_}
 use Rattle.model.specs.declared.Event.{Event}
 use Rattle.model.specs.Recording.{join, read, write}
 use Rattle.model.specs.Pairs.{conflict}
-use Rattle.model.specs.Rows.Starred.{of, W, file, Lists}
 
 -- an event of kind k by task t on the object x
 abbrev pub eventBy : ℕ → ℕ → ℕ → Event
@@ -27,6 +25,3 @@ pub record Conflicts : Type 0 where
   pub two-cells : conflict (eventBy write 0 0) (eventBy write 1 1) ≡ false
   pub no-access : conflict (eventBy write 0 0) (eventBy join 1 0) ≡ false
   pub no-kind : conflict (eventBy write 0 0) (eventBy 7 1 0) ≡ false
-  -- by cell, then lower, then higher event
-  pub by-cell : Lists (file 2 0 3 (of 6 0 2 ++ of 6 1 2 ++ W 0 ++ W 1)) 1 (2 ∷ 3 ∷ 1 ∷ 0 ∷ 1 ∷ 1 ∷ [])
-  pub by-event : Lists (file 2 0 1 (W 0 ++ W 0 ++ W 1 ++ W 1)) 1 (0 ∷ 2 ∷ 1 ∷ 0 ∷ 3 ∷ 1 ∷ 1 ∷ 2 ∷ 1 ∷ 1 ∷ 3 ∷ 1 ∷ [])

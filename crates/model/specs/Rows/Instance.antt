@@ -13,6 +13,6 @@ use Rattle.model.specs.Rows.Starred.{G}
 
 pub record Instance : Type 0 where
   pub accepted : readingOf G ≡ Reading.Accepted (trailerOf G)
-  pub listed-sure : List·Memᴰ (record { first = 2; second = 3; mark = 1 }) (listed (recordingOf G) 37)
+  pub listed-sure : List·Memᴰ (record { first = 3; second = 2; mark = 1 }) (listed (recordingOf G) 37)
   pub conflicting : conflict (event (recordingOf G) 0) (event (recordingOf G) 2) ≡ true
   pub off-list : (m : ℕ) → ¬ (OnList (recordingOf G) 0 2 37 m)

@@ -20,7 +20,7 @@ abbrev pub Prints : List ℕ → String → Type 0
 Prints f text = reportOf f (replicate 32768 0) (replicate 24576 0) ≡ bytes text
 
 pub record Printed : Type 0 where
-  pub g : Prints G "events 6 tasks 2 passes 2 settled yes pairs 1\ncell 0 2 3 sure\n"
+  pub g : Prints G "events 6 tasks 2 passes 2 settled yes pairs 1\ncell 0 3 2 sure\n"
   pub i : Prints I "refused 7 0\n"
   pub j : Prints J "refused 8 0\n"
   pub no-events : Prints (file 1 0 0 []) "events 0 tasks 1 passes 1 settled yes pairs 0\n"
@@ -35,7 +35,7 @@ pub record Printed : Type 0 where
   pub bytes-16385 : Prints (replicate 16385 0) "too long\n"
   -- what is left in the work numbers and in the list
   pub work-left : workAfterReporting G (lent 25) ≡ G-raised ++ G-raised ++ lent 1
-  pub list-left : listAfterReporting G (lent 24) (lent 4) ≡ 2 ∷ 3 ∷ 1 ∷ lent 1
+  pub list-left : listAfterReporting G (lent 24) (lent 4) ≡ 3 ∷ 2 ∷ 1 ∷ lent 1
   pub work-kept : workAfterReporting (replicate 16385 0) (lent 1) ≡ lent 1
   pub list-kept : listAfterReporting (replicate 16385 0) (lent 1) (lent 1) ≡ lent 1
   -- numbers in decimal

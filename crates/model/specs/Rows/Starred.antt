@@ -1,4 +1,5 @@
--- The starred recordings of document 01, as rows of one statement on the definitions, and edge files as rows of another.
+-- The starred recordings of document 01 (the entries as 02, No. 2 has them), as rows of one statement on the definitions, and
+-- edge files as rows of another.
 -- Each row computes the whole way from a file's bytes. Proved in proofs/Starred.antt. Assumes nothing.
 use Prim.Native.Nat.{ℕ, _/_}
 use mathlib.Core.Path.{_≡_}
@@ -113,8 +114,8 @@ pub record Starred : Type 0 where
   pub d : Analyses D 37 2 true []
   pub e : Lists E 37 (0 ∷ 5 ∷ 1 ∷ [])
   pub f : Analyses F 26 2 true []
-  pub g-0 : Analyses G 0 0 false (0 ∷ 2 ∷ 0 ∷ 2 ∷ 3 ∷ 1 ∷ 2 ∷ 5 ∷ 0 ∷ [])
-  pub g-printed : Analyses G 37 2 true (2 ∷ 3 ∷ 1 ∷ [])
+  pub g-0 : Analyses G 0 0 false (0 ∷ 2 ∷ 0 ∷ 3 ∷ 2 ∷ 1 ∷ 5 ∷ 2 ∷ 0 ∷ [])
+  pub g-printed : Analyses G 37 2 true (3 ∷ 2 ∷ 1 ∷ [])
   pub h : Accepts H
   pub i : Refuses I 7 0
   pub j : Refuses J 8 0

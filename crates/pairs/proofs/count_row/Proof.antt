@@ -1,79 +1,119 @@
--- count_row meets its contract: counted so far are the entries of the events below b, which stands in the chain of a. Assumes nothing.
-use mathlib.Core.Path.{_≡_, sym, ap}
+-- count_row meets its contract: counted so far are the entries with the places below j, which stands in the chain of place i. Assumes nothing.
+use mathlib.Core.Path.{_≡_, sym, ap, _∙_}
 use mathlib.Core.Bool.{true}
-use mathlib.Core.List.{[]}
-use Prim.Native.Nat.{_+_, _-_, _≤_, _<_}
+use mathlib.Core.List.{List, []}
+use Prim.Native.Nat.{ℕ, _+_, _-_, _≤_, _<_}
 use native.Mathlib.Omega.{arith}
 use lib.ListN.{length, getD}
+use Rattle.model.specs.Recording.{Recording, eventIn, objectOf}
 use Rattle.model.specs.File.{eventsOf, recordingBy}
-use Rattle.model.specs.Pairs.{entriesOf, pairAt}
+use Rattle.model.specs.Numbers.{each}
+use Rattle.model.specs.Vectors.{Vectors}
+use Rattle.model.specs.Pairs.{Entry}
 use Rattle.passes.specs.Lent.{vectorsIn}
 use Rattle.pairs.specs.Chains.{accessOf, Nearest}
-use Rattle.pairs.proofs.Race.{Counted, count-more, count-skip, count-all, pair-few, pair-skip, pair-start}
+use Rattle.pairs.proofs.Race.{Counted, count-more, count-skip, count-all, pairIn, row-each, behind-hit, pair-few, pair-skip, pair-start}
 use Rattle.pairs.proofs.count_row.Statement.{statement}
 use Rattle.pairs.proofs.count_row.Tie as tie
-use Rattle.model.specs.Recording.{eventIn}
 
 abbrev Inv-loop : tie.InvT-loop
-Inv-loop records counts positions chain safe a n pairs₀ b₀ pairs b =
-    (a < b)
-    × (b ≤ length (eventsOf records))
-    × (n ≡ length (eventsOf records))
-    × (pairs ≤ b)
-    × (b < length (eventsOf records) → accessOf records (eventIn (eventsOf records) a .object) b ≡ true)
-    × Counted (λ R. pairAt (recordingBy records counts []) (vectorsIn records counts safe) R a) b pairs
+Inv-loop records counts positions order chain safe i n a pairs₀ j₀ pairs j =
+    (i < j)
+    × (j ≤ length order)
+    × (n ≡ length order)
+    × (a ≡ getD order i 0)
+    × (pairs ≤ j)
+    × (j < length order → accessOf records order (eventIn (eventsOf records) (getD order i 0) .object) j ≡ true)
+    × Counted (λ R. pairIn (recordingBy records counts []) (vectorsIn records counts safe) R order i) j pairs
 
 abbrev μ-loop : tie.MeasureT-loop
-μ-loop records counts positions chain safe a n pairs₀ b₀ pairs b = n - b
+μ-loop records counts positions order chain safe i n a pairs₀ j₀ pairs j = n - j
 
--- the event behind a in its chain
-behind : (s : tie.Start Inv-loop μ-loop)
-    → Nearest (s .args .records .now) (eventIn (eventsOf (s .args .records .now)) (s .args .a) .object) (s .args .a + 1) (getD (s .args .chain .now) (s .args .a) 0)
-behind s = let i = s .pre .1 .1 in s .pre .1 .0 .links (s .args .a) _ (omega arith) (i .numbered) (i .cell) (i .access)
+module _ (s : tie.Start Inv-loop μ-loop) where
+  abbrev order : List ℕ
+  order = s .args .order .now
+
+  abbrev E : Recording
+  E = recordingBy (s .args .records .now) (s .args .counts) []
+
+  abbrev X : Vectors
+  X = vectorsIn (s .args .records .now) (s .args .counts) (s .args .safe .now)
+
+  -- the cell of the event at place i
+  abbrev cell : ℕ
+  cell = objectOf E (getD order (s .args .i) 0)
+
+  abbrev pairs : Vectors → ℕ → List Entry
+  pairs R = pairIn E X R order (s .args .i)
+
+  -- the place behind i in its chain
+  behind : Nearest (s .args .records .now) order cell (s .args .i + 1) (getD (s .args .chain .now) (s .args .i) 0)
+  behind = let i = s .pre .1 .1 in s .pre .1 .0 .chained .links (s .args .i) cell (omega arith) (i .placed) (i .cell) (i .access)
+
+  few-places : length order ≤ 1024
+  few-places = s .pre .1 .0 .along .few
+
+  -- nothing is passed over, neither at the start nor on the way
+  none : (R : Vectors) → each (pairs R) (getD (s .args .chain .now) (s .args .i) 0) ≡ []
+  none R = pair-start (s .args .records .now) (s .args .counts) X R order (s .args .i) _ behind
+
+  skip : (m j : ℕ) → Nearest (s .args .records .now) order cell m j → (R : Vectors) → each (pairs R) j ≡ each (pairs R) m
+  skip m j n R = pair-skip (s .args .records .now) (s .args .counts) X R order (s .args .i) m j n
 
 loop-holds : tie.Need-loop-holds Inv-loop μ-loop
 loop-holds c =
-    let n = behind (c .before .before .before .before) in
-    (omega (arith, n .low), n .high, omega arith, omega arith, n .hit, λ R. sym (ap length (pair-start _ _ _ R _ _ n)))
+    let s = c .before .before .before .before .before .before in
+    let n = behind s in
+    (omega (arith, n .low), n .high, omega arith, c .before .at-place .ensures, omega arith, n .hit, λ R. sym (ap length (none s R)))
 
 count-pair-requires : tie.Need-count-pair-requires Inv-loop μ-loop
-count-pair-requires c κs = let s = c .before .before .before .before .before .before in (s .pre .0, (c .before .loop .inv .0, omega arith))
+count-pair-requires c κs =
+    let k = c .before .before .loop in
+    let s = c .before .before .before .before .before .before .before .before .before in
+    let o = s .pre .1 .0 .along .numbered in
+    (s .pre .0, (omega (arith, k .inv .3, o (s .args .i) (s .pre .1 .1 .placed)), omega (arith, c .at-place2 .ensures, o (k .j) (omega arith))))
 
--- the next event of the chain
+-- the next place of the chain
 module _ (c : tie.After-count-pair Inv-loop μ-loop) where
   abbrev k : tie.At-loop Inv-loop μ-loop
-  k = c .before .before
+  k = c .before .before .before
 
   abbrev s : tie.Start Inv-loop μ-loop
-  s = k .before .before .before .before .before
+  s = k .before .before .before .before .before .before .before
 
-  inside : k .loop .b < length (eventsOf (s .args .records .now))
+  inside : k .loop .j < length (order s)
   inside = omega arith
 
-  near : Nearest (s .args .records .now) (eventIn (eventsOf (s .args .records .now)) (s .args .a) .object) (k .loop .b + 1) (getD (s .args .chain .now) (k .loop .b) 0)
-  near = s .pre .1 .0 .links (k .loop .b) _ (omega arith) inside (s .pre .1 .1 .cell) (k .loop .inv .4 inside)
+  near : Nearest (s .args .records .now) (order s) (cell s) (k .loop .j + 1) (getD (s .args .chain .now) (k .loop .j) 0)
+  near = s .pre .1 .0 .chained .links (k .loop .j) (cell s) (omega arith) inside (s .pre .1 .1 .cell) (k .loop .inv .5 inside)
 
   few : c .count-pair .result ≤ 1
-  few =
-      pair-few (recordingBy (s .args .records .now) (s .args .counts) []) (vectorsIn (s .args .records .now) (s .args .counts) (s .args .safe .now)) _ (s .args .a) (k .loop .b)
-      (c .count-pair .ensures)
+  few = pair-few (E s) (X s) _ _ _ (c .count-pair .ensures)
+
+  counted : (R : Vectors) → c .count-pair .result ≡ length (pairs s R (k .loop .j))
+  counted R =
+      c .count-pair .ensures R
+      ∙ sym (ap length (behind-hit (E s) (X s) R (order s) _ _ (s .args .i) (k .loop .j) (k .loop .inv .3) (c .before .at-place2 .ensures) (k .loop .inv .0)))
 
 loop-again : tie.Need-loop-again Inv-loop μ-loop
 loop-again c =
     let d = c .before in
     let n = near d in
+    let p = k d .loop in
     let f = few d in (
       omega (arith, n .low),
       n .high,
       omega arith,
+      p .inv .3,
       omega (arith, n .low),
       n .hit,
-      count-skip _ _ _ _ 0 (λ R. pair-skip _ _ _ R _ _ _ n) (count-more _ (k d .loop .b) (k d .loop .pairs) (d .count-pair .result) _ (k d .loop .inv .5) (d .count-pair .ensures) (omega arith)),
+      count-skip (pairs (s d)) _ _ _ 0 (skip (s d) _ _ n) (count-more (pairs (s d)) (p .j) (p .pairs) (d .count-pair .result) _ (p .inv .6) (counted d) (omega arith)),
     )
 
 returns : tie.Need-returns Inv-loop μ-loop
-unfolding entriesOf
-returns c = count-all _ _ _ _ 0 (c .before .loop .inv .5) (omega arith)
+returns c R =
+    let s = c .before .before .before .before .before .before .before .before in
+    count-all (pairs s) (c .before .loop .j) _ (length (order s)) 0 (c .before .loop .inv .6) (omega arith) R ∙ sym (ap length (row-each (E s) (X s) R (order s) (s .args .i)))
 
 pub count-row-spec : {M : Type 1} → statement M
 count-row-spec =
@@ -81,15 +121,17 @@ count-row-spec =
     (tie.spec
     Inv-loop
     μ-loop
-    (λ c. omega arith)
-    (λ c. omega arith)
-    (λ c. omega (arith, behind (c .before .before .before .before) .high))
+    (λ c κs. c .before .before .before .before .pre .1 .1 .placed)
+    (λ c. let s = c .before .before .before .before .before in omega (arith, s .pre .1 .1 .placed, few-places s))
+    (λ c. let s = c .before .before .before .before .before in omega (arith, s .pre .1 .1 .placed, few-places s))
+    (λ c. let s = c .before .before .before .before .before .before in omega (arith, behind s .high, few-places s))
     loop-holds
+    (λ c κs. omega arith)
     count-pair-requires
-    (λ c. omega (arith, few c))
-    (λ c. omega (arith, inside c))
-    (λ c. omega (arith, inside c))
-    (λ c. omega (arith, near (c .before) .high))
+    (λ c. omega (arith, few c, few-places (s c)))
+    (λ c. omega (arith, inside c, few-places (s c)))
+    (λ c. omega (arith, inside c, few-places (s c)))
+    (λ c. omega (arith, near (c .before) .high, few-places (s (c .before))))
     (λ c. omega (arith, near (c .before) .low))
     loop-again
     returns)

@@ -1,21 +1,49 @@
--- list meets its contract: the chains are those of the accesses. Assumes nothing.
+-- list meets its contract: the order lent on is the task order of all events. Assumes nothing.
+use mathlib.Core.Path.{sym, ap, subst, _∙_}
+use mathlib.Core.List.{List}
+use Prim.Native.Nat.{ℕ}
 use native.Mathlib.Omega.{arith}
 use borrow.Author.Needs.{needs}
-use Rattle.pairs.proofs.Chains.{gathered}
+use lib.ListN.{length}
+use Rattle.model.specs.File.{eventsOf}
+use Rattle.model.specs.Pairs.{entriesIn, entries}
+use Rattle.model.proofs.Files.{events-length}
+use Rattle.model.proofs.TaskOrder.{order-length}
+use Rattle.events.specs.Chains.{Along}
+use Rattle.pairs.specs.Lent.{over, WrittenList}
+use Rattle.pairs.proofs.Chains.{task-order-along}
 use Rattle.pairs.proofs.list.Statement.{statement}
 use Rattle.pairs.proofs.list.Tie as tie
 
-gather-requires : tie.Need-gather-requires
-gather-requires c κs =
+task-order-requires : tie.Need-task-order-requires
+task-order-requires c κs =
     let s = c .before .before .before .before .before in
-    let p = s .pre .placed .records in
-    (omega (arith, p .whole, p .few), s .pre .cells)
+    let r = s .pre .placed .records in
+    (omega (arith, r .whole, r .few), s .pre .tasks, r .named)
 
-list-chained-requires : tie.Need-list-chained-requires
-list-chained-requires c κs =
+-- as many places as records
+all-places : tie.Need-slice-aggregate-list-in
+all-places c =
+    let s = c .before .before .before .before .before .before .before in
+    let l = eventsOf (s .args .records .now) in
+    sym (ap length (c .before .task-order .ensures) ∙ order-length l (s .args .counts .tasks) (s .pre .placed .records .named) ∙ events-length (s .args .records .now))
+
+list-in-requires : tie.Need-list-in-requires
+list-in-requires c κs =
     let s = c .before .before .before .before .before .before .before .before in
-    (s .pre, gathered _ _ _ _ (omega (arith, s .pre .placed .records .whole)) (c .before .before .gather .ensures))
+    let r = s .pre .placed .records in
+    (s .pre, subst (Along (s .args .records .now)) (sym (c .before .before .task-order .ensures)) (task-order-along _ _ (r .few) (r .named)))
+
+returns : tie.Need-returns
+unfolding entries
+returns c =
+    let s = c .before .before .before .before .before .before .before .before .before .before .before in
+    let f = c .before .before .list-in in
+    subst
+    (λ (order : List ℕ).
+    WrittenList (over entriesIn (s .args .records .now) (s .args .counts) (s .args .safe .now) (s .args .recorded .now) order) (s .args .out .now) (f .last .1 .1 .1 .1 .1 .1 .0) (f .result .fits) (f .result .pairs))
+    (c .before .before .before .before .before .task-order .ensures) (f .ensures)
 
 pub list-spec : {M : Type 1} → statement M
 list-spec =
-    tie.close (tie.spec gather-requires list-chained-requires (λ c. search needs) (λ c. c .before .before .list-chained .ensures))
+    tie.close (tie.spec task-order-requires (λ c. search needs) all-places list-in-requires (λ c. search needs) returns)

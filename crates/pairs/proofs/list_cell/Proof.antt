@@ -1,74 +1,98 @@
--- list_cell meets its contract: stored so far are the rows of the events below a, which stands in the chain of the cell. Assumes nothing.
+-- list_cell meets its contract: stored so far are the rows of the places below i, which stands in the chain of the cell. Assumes nothing.
 use mathlib.Core.Path.{_≡_, refl, ap, _∙_}
 use mathlib.Core.Bool.{true}
-use mathlib.Core.List.{List}
+use mathlib.Core.List.{List, []}
 use Prim.Native.Nat.{ℕ, _+_, _*_, _-_, _≤_, _<_}
 use native.Mathlib.Omega.{arith}
 use lib.ListN.{length, getD}
 use Rattle.model.specs.Numbers.{each}
-use Rattle.model.specs.File.{eventsOf}
-use Rattle.model.specs.Pairs.{Entry, entriesOf, cellEntries, rowAt}
-use Rattle.pairs.specs.Lent.{over, Stored}
+use Rattle.model.specs.Recording.{Recording}
+use Rattle.model.specs.File.{recordingBy}
+use Rattle.model.specs.Vectors.{Vectors}
+use Rattle.model.specs.Pairs.{Entry, cellEntries}
+use Rattle.passes.specs.Lent.{vectorsIn}
+use Rattle.pairs.specs.Lent.{over, rowOf, Stored}
 use Rattle.events.specs.Chains.{head}
 use Rattle.pairs.specs.Chains.{accessOf, Nearest, InChain}
 use Rattle.pairs.proofs.Chains.{in-chain}
-use Rattle.pairs.proofs.Race.{row-hit, row-skip}
+use Rattle.pairs.proofs.Race.{rowIn, cell-each, row-hit, row-skip}
 use Rattle.pairs.proofs.Stores.{stored-none, stored-more, stored-skip, stored-room, stored-all}
 use Rattle.pairs.proofs.list_cell.Statement.{statement}
 use Rattle.pairs.proofs.list_cell.Tie as tie
 
 abbrev Inv-loop : tie.InvT-loop
-Inv-loop records counts positions chain safe recorded cell out₀ p n next₀ a₀ out next a =
-    (a ≤ length (eventsOf records))
-    × (n ≡ length (eventsOf records))
+Inv-loop records counts positions order chain safe recorded cell out₀ p n next₀ i₀ out next i =
+    (i ≤ length order)
+    × (n ≡ length order)
     × (length out ≡ length out₀)
-    × (a < length (eventsOf records) → accessOf records cell a ≡ true)
-    × Stored out₀ p (each (over rowAt records counts safe recorded cell) a) out next
+    × (i < length order → accessOf records order cell i ≡ true)
+    × Stored out₀ p (each (over rowIn records counts safe recorded order cell) i) out next
 
 abbrev μ-loop : tie.MeasureT-loop
-μ-loop records counts positions chain safe recorded cell out₀ p n next₀ a₀ out next a = n - a
+μ-loop records counts positions order chain safe recorded cell out₀ p n next₀ i₀ out next i = n - i
 
--- the first event of the chain
-ahead : (s : tie.Start Inv-loop μ-loop) → Nearest (s .args .records .now) (s .args .cell) 0 (getD (s .args .chain .now) (head (s .args .cell)) 0)
-ahead s = s .pre .0 .1 .heads (s .args .cell) (s .pre .0 .2)
+module _ (s : tie.Start Inv-loop μ-loop) where
+  abbrev order : List ℕ
+  order = s .args .order .now
+
+  abbrev E : Recording
+  E = recordingBy (s .args .records .now) (s .args .counts) []
+
+  abbrev X : Vectors
+  X = vectorsIn (s .args .records .now) (s .args .counts) (s .args .safe .now)
+
+  abbrev R : Vectors
+  R = vectorsIn (s .args .records .now) (s .args .counts) (s .args .recorded .now)
+
+  abbrev rows : ℕ → List Entry
+  rows = rowIn E X R order (s .args .cell)
+
+  -- the first place of the chain
+  ahead : Nearest (s .args .records .now) order (s .args .cell) 0 (getD (s .args .chain .now) (head (s .args .cell)) 0)
+  ahead = s .pre .0 .1 .chained .heads (s .args .cell) (s .pre .0 .2)
+
+  few-places : length order ≤ 1024
+  few-places = s .pre .0 .1 .along .few
+
+  skip : (m j : ℕ) → Nearest (s .args .records .now) order (s .args .cell) m j → each rows j ≡ each rows m
+  skip m j n = row-skip (s .args .records .now) (s .args .counts) X R order (s .args .cell) m j n
+
+  whole : cellEntries E X R order (s .args .cell) ≡ each rows (length order)
+  whole = cell-each E X R order (s .args .cell)
 
 loop-holds : tie.Need-loop-holds Inv-loop μ-loop
 unfolding each
 loop-holds c =
-    let n = ahead (c .before .before .before .before .before .before) in
-    (n .high, omega arith, refl, n .hit, stored-none _ _ _ (row-skip _ _ _ _ _ 0 _ n))
+    let s = c .before .before .before .before .before .before .before in
+    let n = ahead s in
+    (n .high, omega arith, refl, n .hit, stored-none _ _ _ (skip s 0 _ n))
 
--- the event at hand, and the next of the chain
+-- the place at hand, and the next of the chain
 module _ (c : tie.In-loop Inv-loop μ-loop) where
   abbrev k : tie.At-loop Inv-loop μ-loop
   k = c .before
 
   abbrev s : tie.Start Inv-loop μ-loop
-  s = k .before .before .before .before .before .before .before
+  s = k .before .before .before .before .before .before .before .before
 
-  abbrev rows : ℕ → List Entry
-  rows = over rowAt (s .args .records .now) (s .args .counts) (s .args .safe .now) (s .args .recorded .now) (s .args .cell)
-
-  inside : k .loop .a < length (eventsOf (s .args .records .now))
+  inside : k .loop .i < length (order s)
   inside = omega arith
 
-  here : InChain (s .args .records .now) (s .args .counts .cells) (k .loop .a)
-  here = in-chain _ _ (s .args .cell) _ inside (s .pre .0 .2) (k .loop .inv .3 inside)
+  here : InChain (s .args .records .now) (order s) (s .args .counts .cells) (k .loop .i)
+  here = in-chain _ _ _ (s .args .cell) _ inside (s .pre .0 .2) (k .loop .inv .3 inside)
 
-  near : Nearest (s .args .records .now) (s .args .cell) (k .loop .a + 1) (getD (s .args .chain .now) (k .loop .a) 0)
-  near = s .pre .0 .1 .links (k .loop .a) (s .args .cell) (omega arith) inside (s .pre .0 .2) (k .loop .inv .3 inside)
+  near : Nearest (s .args .records .now) (order s) (s .args .cell) (k .loop .i + 1) (getD (s .args .chain .now) (k .loop .i) 0)
+  near = s .pre .0 .1 .chained .links (k .loop .i) (s .args .cell) (omega arith) inside (s .pre .0 .2) (k .loop .inv .3 inside)
 
-  the-row : rows (k .loop .a) ≡ over entriesOf (s .args .records .now) (s .args .counts) (s .args .safe .now) (s .args .recorded .now) (k .loop .a)
-  the-row = row-hit _ _ _ (s .args .cell) (k .loop .a) (k .loop .inv .3 inside)
+  the-row : rows s (k .loop .i) ≡ rowOf (E s) (X s) (R s) (order s) (k .loop .i)
+  the-row = row-hit (E s) (X s) (R s) (order s) (s .args .cell) (k .loop .i) (k .loop .inv .3 inside)
+
+  room : k .loop .next + 3 * length (rows s (k .loop .i)) ≤ length (k .loop .out)
+  room =
+      stored-room (rows s) (k .loop .i) (length (order s)) (length (k .loop .out)) inside (k .loop .inv .4) (omega (arith, s .pre .1, k .loop .inv .2, ap length (whole s)))
 
 list-row-requires : tie.Need-list-row-requires Inv-loop μ-loop
-unfolding cellEntries
-list-row-requires c κs =
-    let d = c .before in
-    let p = k d .loop in
-    let r : p .next + 3 * length (rows d (p .a)) ≤ length (p .out) =
-    stored-room (rows d) (p .a) (length (eventsOf (s d .args .records .now))) (length (p .out)) (inside d) (p .inv .4) (omega (arith, s d .pre .1)) in
-    ((s d .pre .0 .0, s d .pre .0 .1, here d), omega (arith, ap length (the-row d)))
+list-row-requires c κs = let d = c .before in ((s d .pre .0 .0, s d .pre .0 .1, here d), omega (arith, room d, ap length (the-row d)))
 
 loop-again : tie.Need-loop-again Inv-loop μ-loop
 loop-again c =
@@ -78,14 +102,15 @@ loop-again c =
     let p = k d .loop in (
       n .high,
       omega arith,
-      f .list-row .kept .1 .1 .1 .1 .1 .1 .1 .0 ∙ p .inv .2,
+      f .list-row .kept .1 .1 .1 .1 .1 .1 .1 .1 .0 ∙ p .inv .2,
       n .hit,
-      stored-skip (rows d) _ _ (row-skip _ _ _ _ _ _ _ n) (stored-more (rows d) (p .a) (p .inv .4) (rw (the-row d) (f .list-row .ensures))),
+      stored-skip (rows (s d)) _ _ (skip (s d) _ _ n) (stored-more (rows (s d)) (p .i) (p .inv .4) (rw (the-row d) (f .list-row .ensures))),
     )
 
 returns : tie.Need-returns Inv-loop μ-loop
-unfolding cellEntries
-returns c = stored-all _ _ _ (omega arith) (c .before .loop .inv .4)
+returns c =
+    let s = c .before .before .before .before .before .before .before .before .before in
+    rw (whole s) (stored-all (rows s) (c .before .loop .i) (length (order s)) (omega arith) (c .before .loop .inv .4))
 
 pub list-cell-spec : {M : Type 1} → statement M
 list-cell-spec =
@@ -93,16 +118,16 @@ list-cell-spec =
     (tie.spec
     Inv-loop
     μ-loop
-    (λ c. omega arith)
-    (λ c. omega arith)
-    (λ c. omega arith)
-    (λ c. omega (arith, ahead (c .before .before .before .before .before .before) .high))
+    (λ c. omega (arith, c .before .before .before .before .before .before .pre .0 .0 .cells))
+    (λ c. omega (arith, c .before .before .before .before .before .before .pre .0 .0 .cells))
+    (λ c. omega (arith, c .before .before .before .before .before .before .pre .0 .0 .cells))
+    (λ c. let s = c .before .before .before .before .before .before .before in omega (arith, ahead s .high, few-places s))
     loop-holds
     list-row-requires
-    (λ c. omega (arith, inside (c .before .before .before .before)))
-    (λ c. omega (arith, inside (c .before .before .before .before)))
-    (λ c. omega (arith, near (c .before .before .before .before .before) .high))
-    (λ c. omega (arith, near (c .before .before .before .before .before) .low))
+    (λ c. let d = c .before .before .before .before in omega (arith, inside d, few-places (s d)))
+    (λ c. let d = c .before .before .before .before in omega (arith, inside d, few-places (s d)))
+    (λ c. let d = c .before .before .before .before .before in omega (arith, near d .high, few-places (s d)))
+    (λ c. let d = c .before .before .before .before .before in omega (arith, near d .low))
     loop-again
     (λ c. omega arith)
     returns)

@@ -9,20 +9,20 @@ use Rattle.pairs.proofs.list_chained.Tie as tie
 
 count-requires : tie.Need-count-requires
 count-requires c κs =
-    let s = c .before .before .before .before .before in
+    let s = c .before .before .before .before .before .before in
     ((s .pre .0 .placed, s .pre .0 .safe), (s .pre .1, s .pre .0 .cells))
 
 mul-if1 : tie.Need-mul-if1
 mul-if1 c =
-    let s = c .before .before .before .before .before .before in
-    omega (arith, list-few _ _ _ (s .pre .0 .placed .records .few) (s .pre .0 .cells) (c .count .ensures))
+    let s = c .before .before .before .before .before .before .before in
+    omega (arith, list-few _ _ _ (s .args .order .now) (s .pre .1 .along .few) (s .pre .0 .cells) (c .count .ensures))
 
 returns : tie.Need-returns
 returns c = refused _ _ _ (c .before .count .ensures _) (c .if1 .taken)
 
 list-all-requires : tie.Need-list-all-requires
 list-all-requires c κs =
-    let s = c .before .before .before .before .before .before .before .before in
+    let s = c .before .before .before .before .before .before .before .before .before in
     (s .pre, omega (arith, c .before .before .count .ensures (vectorsIn (s .args .records .now) (s .args .counts) (s .args .recorded .now))))
 
 returns-2 : tie.Need-returns-2

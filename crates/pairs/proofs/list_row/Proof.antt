@@ -1,80 +1,128 @@
--- list_row meets its contract: stored so far are the entries of the events below b, which stands in the chain of a. Assumes nothing.
-use mathlib.Core.Path.{_≡_, refl, _∙_}
+-- list_row meets its contract: stored so far are the entries with the places below j, which stands in the chain of place i. Assumes nothing.
+use mathlib.Core.Path.{_≡_, refl, ap, _∙_}
 use mathlib.Core.Bool.{true}
-use Prim.Native.Nat.{_+_, _-_, _≤_, _<_}
+use mathlib.Core.List.{List, []}
+use Prim.Native.Nat.{ℕ, _+_, _*_, _-_, _≤_, _<_}
 use native.Mathlib.Omega.{arith}
 use lib.ListN.{length, getD}
 use Rattle.model.specs.Numbers.{each}
-use Rattle.model.specs.File.{eventsOf}
-use Rattle.model.specs.Pairs.{entriesOf, pairAt}
-use Rattle.pairs.specs.Lent.{over, Stored}
+use Rattle.model.specs.Recording.{Recording, eventIn, objectOf}
+use Rattle.model.specs.File.{eventsOf, recordingBy}
+use Rattle.model.specs.Vectors.{Vectors}
+use Rattle.model.specs.Pairs.{Entry, pairAt}
+use Rattle.passes.specs.Lent.{vectorsIn}
+use Rattle.pairs.specs.Lent.{over, rowOf, Stored}
 use Rattle.pairs.specs.Chains.{accessOf, Nearest}
-use Rattle.pairs.proofs.Race.{pair-skip, pair-start}
+use Rattle.pairs.proofs.Race.{pairIn, row-each, behind-hit, pair-skip, pair-start}
 use Rattle.pairs.proofs.Stores.{stored-none, stored-more, stored-skip, stored-room, stored-all}
 use Rattle.pairs.proofs.list_row.Statement.{statement}
 use Rattle.pairs.proofs.list_row.Tie as tie
-use Rattle.model.specs.Recording.{eventIn}
 
 abbrev Inv-loop : tie.InvT-loop
-Inv-loop records counts positions chain safe recorded a out₀ p n next₀ b₀ out next b =
-    (a < b)
-    × (b ≤ length (eventsOf records))
-    × (n ≡ length (eventsOf records))
+Inv-loop records counts positions order chain safe recorded i out₀ p n a next₀ j₀ out next j =
+    (i < j)
+    × (j ≤ length order)
+    × (n ≡ length order)
+    × (a ≡ getD order i 0)
     × (length out ≡ length out₀)
-    × (b < length (eventsOf records) → accessOf records (eventIn (eventsOf records) a .object) b ≡ true)
-    × Stored out₀ p (each (over pairAt records counts safe recorded a) b) out next
+    × (j < length order → accessOf records order (eventIn (eventsOf records) (getD order i 0) .object) j ≡ true)
+    × Stored out₀ p (each (over pairIn records counts safe recorded order i) j) out next
 
 abbrev μ-loop : tie.MeasureT-loop
-μ-loop records counts positions chain safe recorded a out₀ p n next₀ b₀ out next b = n - b
+μ-loop records counts positions order chain safe recorded i out₀ p n a next₀ j₀ out next j = n - j
 
--- the event behind a in its chain
-behind : (s : tie.Start Inv-loop μ-loop)
-    → Nearest (s .args .records .now) (eventIn (eventsOf (s .args .records .now)) (s .args .a) .object) (s .args .a + 1) (getD (s .args .chain .now) (s .args .a) 0)
-behind s = let i = s .pre .0 .2 in s .pre .0 .1 .links (s .args .a) _ (omega arith) (i .numbered) (i .cell) (i .access)
+module _ (s : tie.Start Inv-loop μ-loop) where
+  abbrev order : List ℕ
+  order = s .args .order .now
+
+  abbrev E : Recording
+  E = recordingBy (s .args .records .now) (s .args .counts) []
+
+  abbrev X : Vectors
+  X = vectorsIn (s .args .records .now) (s .args .counts) (s .args .safe .now)
+
+  abbrev R : Vectors
+  R = vectorsIn (s .args .records .now) (s .args .counts) (s .args .recorded .now)
+
+  -- the cell of the event at place i
+  abbrev cell : ℕ
+  cell = objectOf E (getD order (s .args .i) 0)
+
+  abbrev pairs : ℕ → List Entry
+  pairs = pairIn E X R order (s .args .i)
+
+  -- the place behind i in its chain
+  behind : Nearest (s .args .records .now) order cell (s .args .i + 1) (getD (s .args .chain .now) (s .args .i) 0)
+  behind = let i = s .pre .0 .2 in s .pre .0 .1 .chained .links (s .args .i) cell (omega arith) (i .placed) (i .cell) (i .access)
+
+  few-places : length order ≤ 1024
+  few-places = s .pre .0 .1 .along .few
+
+  -- nothing is passed over, neither at the start nor on the way
+  none : each pairs (getD (s .args .chain .now) (s .args .i) 0) ≡ []
+  none = pair-start (s .args .records .now) (s .args .counts) X R order (s .args .i) _ behind
+
+  skip : (m j : ℕ) → Nearest (s .args .records .now) order cell m j → each pairs j ≡ each pairs m
+  skip m j n = pair-skip (s .args .records .now) (s .args .counts) X R order (s .args .i) m j n
+
+  whole : rowOf E X R order (s .args .i) ≡ each pairs (length order)
+  whole = row-each E X R order (s .args .i)
 
 loop-holds : tie.Need-loop-holds Inv-loop μ-loop
 loop-holds c =
-    let n = behind (c .before .before .before .before .before .before) in
-    (omega (arith, n .low), n .high, omega arith, refl, n .hit, stored-none _ _ _ (pair-start _ _ _ _ _ _ n))
+    let s = c .before .before .before .before .before .before .before .before in
+    let n = behind s in
+    (omega (arith, n .low), n .high, omega arith, c .before .at-place .ensures, refl, n .hit, stored-none _ _ _ (none s))
 
-list-pair-requires : tie.Need-list-pair-requires Inv-loop μ-loop
-unfolding entriesOf
-list-pair-requires c κs =
-    let k = c .before .before .loop in
-    let s = c .before .before .before .before .before .before .before .before .before in
-    let f = over pairAt (s .args .records .now) (s .args .counts) (s .args .safe .now) (s .args .recorded .now) (s .args .a) in
-    ((s .pre .0 .0, k .inv .0, omega arith), stored-room f (k .b) (length (eventsOf (s .args .records .now))) (length (k .out)) (omega arith) (k .inv .5) (omega (arith, s .pre .1)))
-
--- the next event of the chain
-module _ (c : tie.After-slice-known2 Inv-loop μ-loop) where
+-- the place at hand, and the next of the chain
+module _ (c : tie.After-at-place2 Inv-loop μ-loop) where
   abbrev k : tie.At-loop Inv-loop μ-loop
-  k = c .before .before .before .before .before
+  k = c .before .before
 
   abbrev s : tie.Start Inv-loop μ-loop
-  s = k .before .before .before .before .before .before .before
+  s = k .before .before .before .before .before .before .before .before .before
 
-  inside : k .loop .b < length (eventsOf (s .args .records .now))
+  inside : k .loop .j < length (order s)
   inside = omega arith
 
-  near : Nearest (s .args .records .now) (eventIn (eventsOf (s .args .records .now)) (s .args .a) .object) (k .loop .b + 1) (getD (s .args .chain .now) (k .loop .b) 0)
-  near = s .pre .0 .1 .links (k .loop .b) _ (omega arith) inside (s .pre .0 .2 .cell) (k .loop .inv .4 inside)
+  near : Nearest (s .args .records .now) (order s) (cell s) (k .loop .j + 1) (getD (s .args .chain .now) (k .loop .j) 0)
+  near = s .pre .0 .1 .chained .links (k .loop .j) (cell s) (omega arith) inside (s .pre .0 .2 .cell) (k .loop .inv .5 inside)
+
+  the-pair : pairs s (k .loop .j) ≡ pairAt (E s) (X s) (R s) (k .before .before .at-place .result) (c .at-place2 .result)
+  the-pair = behind-hit (E s) (X s) (R s) (order s) _ _ (s .args .i) (k .loop .j) (k .loop .inv .3) (c .at-place2 .ensures) (k .loop .inv .0)
+
+  room : k .loop .next + 3 * length (pairs s (k .loop .j)) ≤ length (k .loop .out)
+  room =
+      stored-room (pairs s) (k .loop .j) (length (order s)) (length (k .loop .out)) inside (k .loop .inv .6) (omega (arith, s .pre .1, k .loop .inv .4, ap length (whole s)))
+
+list-pair-requires : tie.Need-list-pair-requires Inv-loop μ-loop
+list-pair-requires c κs =
+    let d = c .before in
+    let p = k d .loop in
+    let o = s d .pre .0 .1 .along .numbered in (
+      (s d .pre .0 .0, omega (arith, p .inv .3, o (s d .args .i) (s d .pre .0 .2 .placed)), omega (arith, d .at-place2 .ensures, o (p .j) (inside d))),
+      omega (arith, room d, ap length (the-pair d)),
+    )
 
 loop-again : tie.Need-loop-again Inv-loop μ-loop
 loop-again c =
-    let d = c .before in
+    let f = c .before .before .before in
+    let d = f .before .before in
     let n = near d in
-    let f = d .before .before .list-pair in (
+    let p = k d .loop in (
       omega (arith, n .low),
       n .high,
       omega arith,
-      f .kept .1 .1 .1 .1 .1 .1 .1 .0 ∙ k d .loop .inv .3,
+      p .inv .3,
+      f .list-pair .kept .1 .1 .1 .1 .1 .1 .1 .0 ∙ p .inv .4,
       n .hit,
-      stored-skip _ _ _ (pair-skip _ _ _ _ _ _ _ n) (stored-more _ _ (k d .loop .inv .5) (f .ensures)),
+      stored-skip (pairs (s d)) _ _ (skip (s d) _ _ n) (stored-more (pairs (s d)) (p .j) (p .inv .6) (rw (the-pair d) (f .list-pair .ensures))),
     )
 
 returns : tie.Need-returns Inv-loop μ-loop
-unfolding entriesOf
-returns c = stored-all _ _ _ (omega arith) (c .before .loop .inv .5)
+returns c =
+    let s = c .before .before .before .before .before .before .before .before .before .before in
+    rw (whole s) (stored-all (pairs s) (c .before .loop .j) (length (order s)) (omega arith) (c .before .loop .inv .6))
 
 pub list-row-spec : {M : Type 1} → statement M
 list-row-spec =
@@ -82,15 +130,17 @@ list-row-spec =
     (tie.spec
     Inv-loop
     μ-loop
-    (λ c. omega arith)
-    (λ c. omega arith)
-    (λ c. omega (arith, behind (c .before .before .before .before .before .before) .high))
+    (λ c κs. c .before .before .before .before .before .before .pre .0 .2 .placed)
+    (λ c. let s = c .before .before .before .before .before .before .before in omega (arith, s .pre .0 .2 .placed, few-places s))
+    (λ c. let s = c .before .before .before .before .before .before .before in omega (arith, s .pre .0 .2 .placed, few-places s))
+    (λ c. let s = c .before .before .before .before .before .before .before .before in omega (arith, behind s .high, few-places s))
     loop-holds
+    (λ c κs. omega arith)
     list-pair-requires
-    (λ c. omega (arith, inside c))
-    (λ c. omega (arith, inside c))
-    (λ c. omega (arith, near (c .before) .high))
-    (λ c. omega (arith, near (c .before) .low))
+    (λ c. let d = c .before .before .before .before in omega (arith, inside d, few-places (s d)))
+    (λ c. let d = c .before .before .before .before in omega (arith, inside d, few-places (s d)))
+    (λ c. let d = c .before .before .before .before .before in omega (arith, near d .high, few-places (s d)))
+    (λ c. let d = c .before .before .before .before .before in omega (arith, near d .low))
     loop-again
     (λ c. omega arith)
     returns)

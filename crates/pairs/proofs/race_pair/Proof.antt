@@ -23,14 +23,11 @@ module _ (c : tie.After-conflict) where
   the-conflict = c .conflict .ensures ∙ ap₂ conflict (c .before .before .event-at .ensures) (c .before .event-at2 .ensures)
 
 returns : tie.Need-returns
-returns c =
-    let s = c .before .before .before .before .before .before .before in
-    race-none _ _ _ _ (s .pre .1 .0) (sym (the-conflict (c .before)) ∙ not-true _ (c .if1 .taken))
+returns c = race-none _ _ _ _ (sym (the-conflict (c .before)) ∙ not-true _ (c .if1 .taken))
 
 returns-2 : tie.Need-returns-2
 returns-2 c =
-    let s = c .before .before .before .before .before .before .before .before in
-    race-by _ _ _ _ _ (s .pre .1 .0) (sym (the-conflict (c .before .before)) ∙ not-false _ (c .before .if1 .left)) (c .unordered .ensures)
+    race-by _ _ _ _ _ (sym (the-conflict (c .before .before)) ∙ not-false _ (c .before .if1 .left)) (c .unordered .ensures)
 
 pub race-pair-spec : {M : Type 1} → statement M
 race-pair-spec =

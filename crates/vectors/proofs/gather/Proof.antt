@@ -7,7 +7,8 @@ use lib.ListN.{length, drop, length-set}
 use lib.Seq.{sets}
 use Rattle.vectors.specs.Rows.{column}
 use Rattle.vectors.proofs.Chunks.{column-length, column-at}
-use Rattle.vectors.proofs.Stores.{sets-next, sets-all, sets-front}
+use Rattle.model.proofs.Stores.{sets-front}
+use Rattle.vectors.proofs.Stores.{sets-next, sets-all}
 use Rattle.vectors.proofs.gather.Statement.{statement}
 use Rattle.vectors.proofs.gather.Tie as tie
 
