@@ -10,7 +10,7 @@ use lib.ListN.{getD, set, replicate, length-set, length-replicate, getD-replicat
 use lib.Seq.{getD-set-same, getD-set-other}
 use Rattle.model.specs.declared.Event.{Event}
 use Rattle.model.proofs.Tests.{cases, tests, clash, fails, both, second, either, all-three, leb-true, leb-false, ltb-true, ltb-false, eqb-true, le-leb, eq-eqb}
-use Rattle.events.specs.Chains.{isAmong, Nearest, head, joined, leftOut, linked, Chained}
+use Rattle.events.specs.Chains.{isAmong, Nearest, head, putFirst, leftOut, linked, Chained}
 
 -- over no event yet
 pub start : (p : ℕ → ℕ → Bool) (n k : ℕ) → k ≤ 1024 → Chained p n k n (replicate 2048 n)
@@ -43,25 +43,25 @@ module _ (p : ℕ → ℕ → Bool) (n k e : ℕ) (chain : List ℕ) (c : Chaine
 
   -- an event that stands in the chain of y, and in no other
   module _ (y : ℕ) (l : y < k) (f : k ≤ 1024) (g : n ≤ 1024) (w : e < n) (h : p y e ≡ true) (only : (x : ℕ) → p x e ≡ true → x ≡ y) where
-    at-head : getD (joined y e chain) (head y) 0 ≡ e
+    at-head : getD (putFirst y e chain) (head y) 0 ≡ e
     at-head = getD-set-same (set chain e (getD chain (head y) 0)) (head y) e 0 (omega (arith, length-set chain e (getD chain (head y) 0), c .wide))
 
     -- places behind those of the events
-    at-others : (x : ℕ) → (x ≡ y → ⊥) → getD (joined y e chain) (head x) 0 ≡ getD chain (head x) 0
+    at-others : (x : ℕ) → (x ≡ y → ⊥) → getD (putFirst y e chain) (head x) 0 ≡ getD chain (head x) 0
     at-others x o =
         getD-set-other (set chain e (getD chain (head y) 0)) (head y) (head x) e 0 (λ q. o (omega arith))
         ∙ getD-set-other chain e (head x) (getD chain (head y) 0) 0 (λ q. omega arith)
 
-    at-event : (a : ℕ) → a < 1024 → getD (joined y e chain) a 0 ≡ getD (set chain e (getD chain (head y) 0)) a 0
+    at-event : (a : ℕ) → a < 1024 → getD (putFirst y e chain) a 0 ≡ getD (set chain e (getD chain (head y) 0)) a 0
     at-event a m = getD-set-other (set chain e (getD chain (head y) 0)) (head y) a e 0 (λ q. omega arith)
 
-    head-next : (x : ℕ) → x < k → Nearest (p x) n e (getD (joined y e chain) (head x) 0)
+    head-next : (x : ℕ) → x < k → Nearest (p x) n e (getD (putFirst y e chain) (head x) 0)
     head-next x m =
         cases (eqb x y)
         (λ t. let q : x ≡ y = omega tests in rw (q, at-head) (record { low = omega arith; high = omega arith; passed = λ i a b. absurd (omega arith); hit = λ _. h }))
         (λ t. rw (at-others x (λ q. omega tests)) (nearest-more (p x) n e (getD chain (head x) 0) (fails (p x e) (λ u. let q = only x u in omega tests)) (c .heads x m)))
 
-    link-next : (a x : ℕ) → e ≤ a → a < n → x < k → p x a ≡ true → Nearest (p x) n (a + 1) (getD (joined y e chain) a 0)
+    link-next : (a x : ℕ) → e ≤ a → a < n → x < k → p x a ≡ true → Nearest (p x) n (a + 1) (getD (putFirst y e chain) a 0)
     link-next a x m r o t =
         cases (eqb a e)
         (λ u.
@@ -70,8 +70,8 @@ module _ (p : ℕ → ℕ → Bool) (n k e : ℕ) (chain : List ℕ) (c : Chaine
         rw (at-event a (omega arith), q, z, getD-set-same chain e (getD chain (head y) 0) 0 (omega (arith, c .wide))) (c .heads y l))
         (λ u. rw (at-event a (omega arith), getD-set-other chain e a (getD chain (head y) 0) 0 (λ q. omega tests)) (c .links a x (omega tests) r o t))
 
-    pub next-joined : Chained p n k e (joined y e chain)
-    next-joined =
+    pub next-put : Chained p n k e (putFirst y e chain)
+    next-put =
         record {
           wide = length-set (set chain e (getD chain (head y) 0)) (head y) e ∙ length-set chain e (getD chain (head y) 0) ∙ c .wide;
           heads = head-next;
@@ -128,4 +128,4 @@ module _ (lo hi k : ℕ) (v : Event) where
       cases (leftOut lo hi k v) (λ t. rw t (next-none p n k e chain c (λ x l. same x ∙ outside t x l)))
       (λ t.
       let (l, h) = within t in
-      rw t (next-joined p n k e chain c (v .object) l f g w (same (v .object) ∙ h) (λ x q. alone x (sym (same x) ∙ q))))
+      rw t (next-put p n k e chain c (v .object) l f g w (same (v .object) ∙ h) (λ x q. alone x (sym (same x) ∙ q))))

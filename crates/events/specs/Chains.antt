@@ -45,8 +45,8 @@ abbrev pub head : ℕ → ℕ
 head x = 1024 + x
 
 -- place i put first in the chain of the object x
-abbrev pub joined : ℕ → ℕ → List ℕ → List ℕ
-joined x i chain = set (set chain i (getD chain (head x) 0)) (head x) i
+abbrev pub putFirst : ℕ → ℕ → List ℕ → List ℕ
+putFirst x i chain = set (set chain i (getD chain (head x) 0)) (head x) i
 
 -- the event v is of no kind from lo to hi, or its object is not below k
 abbrev pub leftOut : ℕ → ℕ → ℕ → Event → Bool
@@ -54,7 +54,7 @@ leftOut lo hi k v = ltb (v .kind) lo || ltb hi (v .kind) || leb k (v .object)
 
 -- place i, that of the event v, put first in the chain of its object, unless v is left out
 unfoldable pub linked : ℕ → ℕ → ℕ → Event → ℕ → List ℕ → List ℕ
-linked lo hi k v i chain = cond (leftOut lo hi k v) chain (joined (v .object) i chain)
+linked lo hi k v i chain = cond (leftOut lo hi k v) chain (putFirst (v .object) i chain)
 
 -- the running state, the chains of the objects below k over the places from e on, of n: at an object's place the nearest
 -- from e on, and at a place in a chain the nearest behind it

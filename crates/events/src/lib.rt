@@ -1,5 +1,6 @@
 // The records as lent bytes: an event's fields, searches over the first records, and what one look at all records keeps
-// of each: positions, the event before, and chains of the events on one object. And the level bytes: start counts.
+// of each: positions, the event before, chains of the events on one object, and the task order. And the level bytes: start
+// counts.
 ghost use mathlib.Core.Path.{_≡_};
 ghost use Prim.Native.Nat.{_+_, _*_, _/_, _≤_, _<_};
 ghost use lib.ListN.{length, getD, take};
@@ -10,7 +11,7 @@ ghost use Rattle.model.specs.File.{u16At, eventsOf, recordBytes, levelCount, le
 ghost use Rattle.model.specs.Reading.{mostTasks, mostCells, mostEvents};
 ghost use Rattle.model.specs.Passes.{beforeOrFork};
 ghost use Rattle.model.specs.Pairs.{ownEvents, taskOrder};
-ghost use Rattle.events.specs.Chains.{among, amongIn, byTask, Along, joined, linked, Chained};
+ghost use Rattle.events.specs.Chains.{among, amongIn, byTask, Along, putFirst, linked, Chained};
 ghost use Rattle.events.specs.Kept.{Positions, Below, foundBelow, Before, Tasked};
 use model::Counts;
 use model::Event;
@@ -197,7 +198,7 @@ pub const CHAINS: usize = 2048;
 // Puts place i first in the chain of object x.
 fn put_first(chain: &mut [u16; CHAINS], x: u16, i: usize)
     requires { ⌜ (x < mostCells) × (i < mostEvents) ⌝ }
-    ensures { λ _. ⌜ now (chain .exit) ≡ joined x i (now (chain .entry)) ⌝ }
+    ensures { λ _. ⌜ now (chain .exit) ≡ putFirst x i (now (chain .entry)) ⌝ }
 {
     let head = MOST_EVENTS + (x as usize);
     chain[i] = chain[head];
@@ -239,7 +240,7 @@ pub fn at_place(order: &[u16], i: usize) -> usize
     order[i] as usize
 }
 
-// The same along an order of the events: the chains are of places in it.
+// Gathers them along an order of the events: the chains are of places in it.
 pub fn gather_in(records: &[u8], order: &[u16], lo: u8, hi: u8, limit: u16) -> [u16; CHAINS]
     requires { ⌜ Along (now records) (now order) × (limit ≤ mostCells) ⌝ }
     ensures { λ r. ⌜ Chained (amongIn (now (records .entry)) (now (order .entry)) lo hi) (length (now (order .entry))) limit 0 r ⌝ }
@@ -255,7 +256,7 @@ pub fn gather_in(records: &[u8], order: &[u16], lo: u8, hi: u8, limit: u16) -> [
     chain
 }
 
-// Gathers the events of each task, which is a byte, in a chain.
+// Gathers the events of each task, which is a byte, in a chain, from the last event to the first.
 fn gather_tasks(records: &[u8]) -> [u16; CHAINS]
     requires { ⌜ length (now records) ≤ 4 * mostEvents ⌝ }
     ensures { λ r. ⌜ Chained (byTask (now (records .entry))) (length (now (records .entry)) / 4) 256 0 r ⌝ }

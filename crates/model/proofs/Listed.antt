@@ -31,25 +31,28 @@ pub unordered-turned : (l : List Event) (X : Vectors) (a b : ℕ) → unordered 
 unfolding unordered
 unordered-turned l X a b = and-comm (not (ordered l X a b)) (not (ordered l X b a))
 
--- a conflict is on one cell, and between two tasks
+-- a conflict is between accesses of one cell, from two tasks
 module _ (v w : Event) (h : conflict v w ≡ true) where
-  abbrev tests : Bool
-  tests = isAccess v && isAccess w && eqb (v .object) (w .object) && not (eqb (v .task) (w .task))
+  abbrev shared : Bool
+  shared = isAccess v && isAccess w && eqb (v .object) (w .object)
 
-  on-one : tests ≡ true
+  sharing : (shared ≡ true) × (not (eqb (v .task) (w .task)) ≡ true)
   unfolding conflict
-  on-one = first tests (isWrite v || isWrite w) h
+  sharing = let t = first (shared && not (eqb (v .task) (w .task))) (isWrite v || isWrite w) h in (first shared _ t, second shared _ t)
 
-  conflict-object : v .object ≡ w .object
-  conflict-object = eqb-true (v .object) (w .object) (second (isAccess v && isAccess w) _ (first _ (not (eqb (v .task) (w .task))) on-one))
+  pub conflict-accesses : (isAccess v ≡ true) × (isAccess w ≡ true)
+  conflict-accesses = let (a, b, c) = all-three (isAccess v) (isAccess w) _ (sharing .0) in (a, b)
+
+  pub conflict-object : v .object ≡ w .object
+  conflict-object = eqb-true (v .object) (w .object) (second (isAccess v && isAccess w) _ (sharing .0))
 
   conflict-tasks : ¬ (v .task ≡ w .task)
-  conflict-tasks = eqb-false (v .task) (w .task) (of-not _ (second (isAccess v && isAccess w && eqb (v .object) (w .object)) _ on-one))
+  conflict-tasks = eqb-false (v .task) (w .task) (of-not _ (sharing .1))
 
 -- a conflict is on a cell
 pub conflict-cell : (c : Counts) (v w : Event) → conflict v w ≡ true → namesOf c (classOf (v .kind)) ≡ c .cells
-unfolding conflict classOf
-conflict-cell c v w h = go (either (eqb (v .kind) read) (isWrite v) (all-three (isAccess v) (isAccess w) _ (first _ _ (first _ _ h)) .0))
+unfolding classOf
+conflict-cell c v w h = go (either (eqb (v .kind) read) (isWrite v) (conflict-accesses v w h .0))
   where
     go : (eqb (v .kind) read ≡ true) ⊎ (isWrite v ≡ true) → namesOf c (classOf (v .kind)) ≡ c .cells
     go (inl t) = ap (λ (k : ℕ). namesOf c (classOf k)) (eqb-true (v .kind) read t)

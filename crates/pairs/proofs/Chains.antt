@@ -2,7 +2,7 @@
 use mathlib.Core.Path.{_≡_, refl, ap}
 use mathlib.Core.Bool.{Bool, true, false, _&&_, _||_}
 use mathlib.Core.List.{List, []}
-use Prim.Native.Nat.{ℕ, _≤_, _<_}
+use Prim.Native.Nat.{ℕ, _+_, _≤_, _<_}
 use native.Mathlib.Omega.{arith}
 use lib.Dec.{leb, eqb}
 use lib.ListN.{length, getD}
@@ -14,7 +14,7 @@ use Rattle.model.proofs.TaskOrder.{order-length, order-at}
 use Rattle.events.specs.Kept.{Tasked}
 use Rattle.model.proofs.Each.{each-skip}
 use Rattle.model.proofs.Tests.{cases, tests, fails, both, first, second, eqb-true, eq-eqb}
-use Rattle.events.specs.Chains.{amongIn, Along, Chained as ChainedOf}
+use Rattle.events.specs.Chains.{amongIn, head, Along, Chained as ChainedOf}
 use Rattle.events.proofs.Chains.{chained-by}
 use Rattle.pairs.specs.Chains.{accessOf, Nearest, Linked, InChain}
 use Rattle.model.specs.Recording.{eventIn, read, write}
@@ -45,6 +45,15 @@ in-chain s order k x i h l t =
     let v = eventIn (eventsOf s) (getD order i 0) in
     let e = eqb-true (v .object) x (second (isAccess v) (eqb (v .object) x) t) in
     record { placed = h; cell = omega arith; access = both (first (isAccess v) (eqb (v .object) x) t) (eq-eqb (v .object) (v .object) refl) }
+
+-- ---- the places of a chain, one after another
+
+module _ {s order : List ℕ} {k : ℕ} {chain : List ℕ} (l : Linked s order k chain) (x : ℕ) (h : x < k) where
+  pub first-place : Nearest s order x 0 (getD chain (head x) 0)
+  first-place = l .chained .heads x h
+
+  pub next-place : (i : ℕ) → i < length order → accessOf s order x i ≡ true → Nearest s order x (i + 1) (getD chain i 0)
+  next-place i n t = l .chained .links i x (omega arith) n h t
 
 -- ---- what a chain passes over
 

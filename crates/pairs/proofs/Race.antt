@@ -1,6 +1,6 @@
 -- Race pairs and their marks, and the parts that the list is made of. Assumes nothing.
 use mathlib.Core.Path.{_≡_, refl, sym, ap, _∙_}
-use mathlib.Core.Bool.{Bool, true, false, cond, not, _&&_, _||_}
+use mathlib.Core.Bool.{Bool, true, false, cond}
 use mathlib.Core.List.{List, [], _∷_}
 use Prim.Native.Nat.{ℕ, suc, _+_, _*_, _≤_, _<_}
 use native.Mathlib.Omega.{arith}
@@ -13,29 +13,22 @@ use Rattle.model.specs.Numbers.{each}
 use Rattle.model.specs.Recording.{Recording, cells, event, objectOf}
 use Rattle.model.specs.File.{recordingBy}
 use Rattle.model.specs.Vectors.{Vectors, unordered}
-use Rattle.model.specs.Pairs.{isAccess, isWrite, conflict, racePair, mark, Entry, entry, pairAt, entriesOf, rowAt, cellEntries, entriesIn}
-use Rattle.model.proofs.Tests.{cases, tests, clash, fails, both, first, second, and-false}
+use Rattle.model.specs.Pairs.{isAccess, conflict, racePair, mark, Entry, entry, pairAt, entriesOf, rowAt, cellEntries, entriesIn}
+use Rattle.model.proofs.Tests.{cases, clash, fails, both, second, and-false, eq-eqb}
+use Rattle.model.proofs.Listed.{conflict-accesses, conflict-object}
 use Rattle.model.proofs.Each.{each-none, each-most, each-count, flat-each, tails-each}
 use Rattle.pairs.specs.Chains.{isAccessOf, Nearest}
 use Rattle.pairs.specs.Lent.{rowOf}
 use Rattle.pairs.proofs.Chains.{skipped}
 
+-- what is no access has no conflict
 conflict-access : (v w : Event) → isAccess v ≡ false → conflict v w ≡ false
-unfolding conflict
-conflict-access v w p = rw p
+conflict-access v w p = fails (conflict v w) (λ t. clash (conflict-accesses v w t .0) p)
 
 -- a conflict is with an access of the same cell
 conflict-other : (v w : Event) → isAccessOf (v .object) w ≡ false → conflict v w ≡ false
-unfolding conflict
 conflict-other v w p =
-    fails (conflict v w) λ t.
-    let cell = eqb (v .object) (w .object) in
-    let a = first (isAccess v && isAccess w && cell && not (eqb (v .task) (w .task))) (isWrite v || isWrite w) t in
-    let b = first (isAccess v && isAccess w && cell) (not (eqb (v .task) (w .task))) a in
-    let d = second (isAccess v && isAccess w) cell b in
-    let e = second (isAccess v) (isAccess w) (first (isAccess v && isAccess w) cell b) in
-    let q : eqb (w .object) (v .object) ≡ true = omega tests in
-    clash (both e q) p
+    fails (conflict v w) (λ t. clash (both (conflict-accesses v w t .1) (eq-eqb (w .object) (v .object) (sym (conflict-object v w t)))) p)
 
 -- n is how many entries the parts below i have, whatever vectors give the marks
 abbrev pub Counted : (Vectors → ℕ → List Entry) → ℕ → ℕ → Type 0

@@ -6,7 +6,7 @@ use lib.ListN.{length, getD}
 use Rattle.model.proofs.Tests.{eqb-true, eq-eqb}
 use Rattle.events.specs.Chains.{byTask, Chained}
 use Rattle.events.proofs.Laws.{task-at}
-use Rattle.events.proofs.Chains.{start, next-joined}
+use Rattle.events.proofs.Chains.{start, next-put}
 use Rattle.events.proofs.gather_tasks.Statement.{statement}
 use Rattle.events.proofs.gather_tasks.Tie as tie
 
@@ -31,7 +31,7 @@ loop-again c =
     let e : k .e ≡ k .e - 1 + 1 = omega arith in (
       omega arith,
       rw (c .put-first .ensures)
-          (next-joined _ _ _ _ _ (rw e at (k .inv .1)) _ (byte (c .before)) (omega arith) (omega arith) (omega arith) (eq-eqb _ _ t) (λ x q. sym (eqb-true _ x q) ∙ t)),
+          (next-put _ _ _ _ _ (rw e at (k .inv .1)) _ (byte (c .before)) (omega arith) (omega arith) (omega arith) (eq-eqb _ _ t) (λ x q. sym (eqb-true _ x q) ∙ t)),
     )
 
 returns : tie.Need-returns Inv-loop μ-loop

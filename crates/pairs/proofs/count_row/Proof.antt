@@ -5,13 +5,13 @@ use mathlib.Core.List.{List, []}
 use Prim.Native.Nat.{ℕ, _+_, _-_, _≤_, _<_}
 use native.Mathlib.Omega.{arith}
 use lib.ListN.{length, getD}
-use Rattle.model.specs.Recording.{Recording, eventIn, objectOf}
+use Rattle.model.specs.Recording.{eventIn}
 use Rattle.model.specs.File.{eventsOf, recordingBy}
-use Rattle.model.specs.Numbers.{each}
 use Rattle.model.specs.Vectors.{Vectors}
 use Rattle.model.specs.Pairs.{Entry}
 use Rattle.passes.specs.Lent.{vectorsIn}
 use Rattle.pairs.specs.Chains.{accessOf, Nearest}
+use Rattle.pairs.proofs.Chains.{next-place}
 use Rattle.pairs.proofs.Race.{Counted, count-more, count-skip, count-all, pairIn, row-each, behind-hit, pair-few, pair-skip, pair-start}
 use Rattle.pairs.proofs.count_row.Statement.{statement}
 use Rattle.pairs.proofs.count_row.Tie as tie
@@ -33,38 +33,25 @@ module _ (s : tie.Start Inv-loop μ-loop) where
   abbrev order : List ℕ
   order = s .args .order .now
 
-  abbrev E : Recording
-  E = recordingBy (s .args .records .now) (s .args .counts) []
-
-  abbrev X : Vectors
-  X = vectorsIn (s .args .records .now) (s .args .counts) (s .args .safe .now)
-
   -- the cell of the event at place i
   abbrev cell : ℕ
-  cell = objectOf E (getD order (s .args .i) 0)
+  cell = eventIn (eventsOf (s .args .records .now)) (getD order (s .args .i) 0) .object
 
   abbrev pairs : Vectors → ℕ → List Entry
-  pairs R = pairIn E X R order (s .args .i)
+  pairs R = pairIn (recordingBy (s .args .records .now) (s .args .counts) []) (vectorsIn (s .args .records .now) (s .args .counts) (s .args .safe .now)) R order (s .args .i)
 
   -- the place behind i in its chain
   behind : Nearest (s .args .records .now) order cell (s .args .i + 1) (getD (s .args .chain .now) (s .args .i) 0)
-  behind = let i = s .pre .1 .1 in s .pre .1 .0 .chained .links (s .args .i) cell (omega arith) (i .placed) (i .cell) (i .access)
+  behind = let i = s .pre .1 .1 in next-place (s .pre .1 .0) cell (i .cell) (s .args .i) (i .placed) (i .access)
 
   few-places : length order ≤ 1024
   few-places = s .pre .1 .0 .along .few
-
-  -- nothing is passed over, neither at the start nor on the way
-  none : (R : Vectors) → each (pairs R) (getD (s .args .chain .now) (s .args .i) 0) ≡ []
-  none R = pair-start (s .args .records .now) (s .args .counts) X R order (s .args .i) _ behind
-
-  skip : (m j : ℕ) → Nearest (s .args .records .now) order cell m j → (R : Vectors) → each (pairs R) j ≡ each (pairs R) m
-  skip m j n R = pair-skip (s .args .records .now) (s .args .counts) X R order (s .args .i) m j n
 
 loop-holds : tie.Need-loop-holds Inv-loop μ-loop
 loop-holds c =
     let s = c .before .before .before .before .before .before in
     let n = behind s in
-    (omega (arith, n .low), n .high, omega arith, c .before .at-place .ensures, omega arith, n .hit, λ R. sym (ap length (none s R)))
+    (omega (arith, n .low), n .high, omega arith, c .before .at-place .ensures, omega arith, n .hit, λ R. sym (ap length (pair-start _ _ _ R (order s) (s .args .i) _ n)))
 
 count-pair-requires : tie.Need-count-pair-requires Inv-loop μ-loop
 count-pair-requires c κs =
@@ -85,15 +72,15 @@ module _ (c : tie.After-count-pair Inv-loop μ-loop) where
   inside = omega arith
 
   near : Nearest (s .args .records .now) (order s) (cell s) (k .loop .j + 1) (getD (s .args .chain .now) (k .loop .j) 0)
-  near = s .pre .1 .0 .chained .links (k .loop .j) (cell s) (omega arith) inside (s .pre .1 .1 .cell) (k .loop .inv .5 inside)
+  near = next-place (s .pre .1 .0) (cell s) (s .pre .1 .1 .cell) (k .loop .j) inside (k .loop .inv .5 inside)
 
   few : c .count-pair .result ≤ 1
-  few = pair-few (E s) (X s) _ _ _ (c .count-pair .ensures)
+  few = pair-few _ _ _ _ _ (c .count-pair .ensures)
 
   counted : (R : Vectors) → c .count-pair .result ≡ length (pairs s R (k .loop .j))
   counted R =
       c .count-pair .ensures R
-      ∙ sym (ap length (behind-hit (E s) (X s) R (order s) _ _ (s .args .i) (k .loop .j) (k .loop .inv .3) (c .before .at-place2 .ensures) (k .loop .inv .0)))
+      ∙ sym (ap length (behind-hit _ _ R (order s) _ _ (s .args .i) (k .loop .j) (k .loop .inv .3) (c .before .at-place2 .ensures) (k .loop .inv .0)))
 
 loop-again : tie.Need-loop-again Inv-loop μ-loop
 loop-again c =
@@ -107,13 +94,13 @@ loop-again c =
       p .inv .3,
       omega (arith, n .low),
       n .hit,
-      count-skip (pairs (s d)) _ _ _ 0 (skip (s d) _ _ n) (count-more (pairs (s d)) (p .j) (p .pairs) (d .count-pair .result) _ (p .inv .6) (counted d) (omega arith)),
+      count-skip (pairs (s d)) _ _ _ 0 (λ R. pair-skip _ _ _ R (order (s d)) (s d .args .i) _ _ n) (count-more (pairs (s d)) (p .j) (p .pairs) (d .count-pair .result) _ (p .inv .6) (counted d) (omega arith)),
     )
 
 returns : tie.Need-returns Inv-loop μ-loop
 returns c R =
     let s = c .before .before .before .before .before .before .before .before in
-    count-all (pairs s) (c .before .loop .j) _ (length (order s)) 0 (c .before .loop .inv .6) (omega arith) R ∙ sym (ap length (row-each (E s) (X s) R (order s) (s .args .i)))
+    count-all (pairs s) (c .before .loop .j) _ (length (order s)) 0 (c .before .loop .inv .6) (omega arith) R ∙ sym (ap length (row-each _ _ R (order s) (s .args .i)))
 
 pub count-row-spec : {M : Type 1} → statement M
 count-row-spec =

@@ -1,20 +1,16 @@
 -- list_cell meets its contract: stored so far are the rows of the places below i, which stands in the chain of the cell. Assumes nothing.
 use mathlib.Core.Path.{_≡_, refl, ap, _∙_}
 use mathlib.Core.Bool.{true}
-use mathlib.Core.List.{List, []}
+use mathlib.Core.List.{List}
 use Prim.Native.Nat.{ℕ, _+_, _*_, _-_, _≤_, _<_}
 use native.Mathlib.Omega.{arith}
 use lib.ListN.{length, getD}
 use Rattle.model.specs.Numbers.{each}
-use Rattle.model.specs.Recording.{Recording}
-use Rattle.model.specs.File.{recordingBy}
-use Rattle.model.specs.Vectors.{Vectors}
 use Rattle.model.specs.Pairs.{Entry, cellEntries}
-use Rattle.passes.specs.Lent.{vectorsIn}
 use Rattle.pairs.specs.Lent.{over, rowOf, Stored}
 use Rattle.events.specs.Chains.{head}
 use Rattle.pairs.specs.Chains.{accessOf, Nearest, InChain}
-use Rattle.pairs.proofs.Chains.{in-chain}
+use Rattle.pairs.proofs.Chains.{in-chain, first-place, next-place}
 use Rattle.pairs.proofs.Race.{rowIn, cell-each, row-hit, row-skip}
 use Rattle.pairs.proofs.Stores.{stored-none, stored-more, stored-skip, stored-room, stored-all}
 use Rattle.pairs.proofs.list_cell.Statement.{statement}
@@ -35,37 +31,25 @@ module _ (s : tie.Start Inv-loop μ-loop) where
   abbrev order : List ℕ
   order = s .args .order .now
 
-  abbrev E : Recording
-  E = recordingBy (s .args .records .now) (s .args .counts) []
-
-  abbrev X : Vectors
-  X = vectorsIn (s .args .records .now) (s .args .counts) (s .args .safe .now)
-
-  abbrev R : Vectors
-  R = vectorsIn (s .args .records .now) (s .args .counts) (s .args .recorded .now)
-
   abbrev rows : ℕ → List Entry
-  rows = rowIn E X R order (s .args .cell)
+  rows = over rowIn (s .args .records .now) (s .args .counts) (s .args .safe .now) (s .args .recorded .now) order (s .args .cell)
+
+  whole : over cellEntries (s .args .records .now) (s .args .counts) (s .args .safe .now) (s .args .recorded .now) order (s .args .cell) ≡ each rows (length order)
+  whole = cell-each _ _ _ order (s .args .cell)
 
   -- the first place of the chain
   ahead : Nearest (s .args .records .now) order (s .args .cell) 0 (getD (s .args .chain .now) (head (s .args .cell)) 0)
-  ahead = s .pre .0 .1 .chained .heads (s .args .cell) (s .pre .0 .2)
+  ahead = first-place (s .pre .0 .1) (s .args .cell) (s .pre .0 .2)
 
   few-places : length order ≤ 1024
   few-places = s .pre .0 .1 .along .few
-
-  skip : (m j : ℕ) → Nearest (s .args .records .now) order (s .args .cell) m j → each rows j ≡ each rows m
-  skip m j n = row-skip (s .args .records .now) (s .args .counts) X R order (s .args .cell) m j n
-
-  whole : cellEntries E X R order (s .args .cell) ≡ each rows (length order)
-  whole = cell-each E X R order (s .args .cell)
 
 loop-holds : tie.Need-loop-holds Inv-loop μ-loop
 unfolding each
 loop-holds c =
     let s = c .before .before .before .before .before .before .before in
     let n = ahead s in
-    (n .high, omega arith, refl, n .hit, stored-none _ _ _ (skip s 0 _ n))
+    (n .high, omega arith, refl, n .hit, stored-none _ _ _ (row-skip _ _ _ _ (order s) (s .args .cell) 0 _ n))
 
 -- the place at hand, and the next of the chain
 module _ (c : tie.In-loop Inv-loop μ-loop) where
@@ -82,10 +66,10 @@ module _ (c : tie.In-loop Inv-loop μ-loop) where
   here = in-chain _ _ _ (s .args .cell) _ inside (s .pre .0 .2) (k .loop .inv .3 inside)
 
   near : Nearest (s .args .records .now) (order s) (s .args .cell) (k .loop .i + 1) (getD (s .args .chain .now) (k .loop .i) 0)
-  near = s .pre .0 .1 .chained .links (k .loop .i) (s .args .cell) (omega arith) inside (s .pre .0 .2) (k .loop .inv .3 inside)
+  near = next-place (s .pre .0 .1) (s .args .cell) (s .pre .0 .2) (k .loop .i) inside (k .loop .inv .3 inside)
 
-  the-row : rows s (k .loop .i) ≡ rowOf (E s) (X s) (R s) (order s) (k .loop .i)
-  the-row = row-hit (E s) (X s) (R s) (order s) (s .args .cell) (k .loop .i) (k .loop .inv .3 inside)
+  the-row : rows s (k .loop .i) ≡ over rowOf (s .args .records .now) (s .args .counts) (s .args .safe .now) (s .args .recorded .now) (order s) (k .loop .i)
+  the-row = row-hit _ _ _ (order s) (s .args .cell) (k .loop .i) (k .loop .inv .3 inside)
 
   room : k .loop .next + 3 * length (rows s (k .loop .i)) ≤ length (k .loop .out)
   room =
@@ -104,7 +88,7 @@ loop-again c =
       omega arith,
       f .list-row .kept .1 .1 .1 .1 .1 .1 .1 .1 .0 ∙ p .inv .2,
       n .hit,
-      stored-skip (rows (s d)) _ _ (skip (s d) _ _ n) (stored-more (rows (s d)) (p .i) (p .inv .4) (rw (the-row d) (f .list-row .ensures))),
+      stored-skip (rows (s d)) _ _ (row-skip _ _ _ _ (order (s d)) (s d .args .cell) _ _ n) (stored-more (rows (s d)) (p .i) (p .inv .4) (rw (the-row d) (f .list-row .ensures))),
     )
 
 returns : tie.Need-returns Inv-loop μ-loop

@@ -1,18 +1,17 @@
 -- list_row meets its contract: stored so far are the entries with the places below j, which stands in the chain of place i. Assumes nothing.
 use mathlib.Core.Path.{_≡_, refl, ap, _∙_}
 use mathlib.Core.Bool.{true}
-use mathlib.Core.List.{List, []}
+use mathlib.Core.List.{List}
 use Prim.Native.Nat.{ℕ, _+_, _*_, _-_, _≤_, _<_}
 use native.Mathlib.Omega.{arith}
 use lib.ListN.{length, getD}
 use Rattle.model.specs.Numbers.{each}
-use Rattle.model.specs.Recording.{Recording, eventIn, objectOf}
-use Rattle.model.specs.File.{eventsOf, recordingBy}
-use Rattle.model.specs.Vectors.{Vectors}
+use Rattle.model.specs.Recording.{eventIn}
+use Rattle.model.specs.File.{eventsOf}
 use Rattle.model.specs.Pairs.{Entry, pairAt}
-use Rattle.passes.specs.Lent.{vectorsIn}
 use Rattle.pairs.specs.Lent.{over, rowOf, Stored}
 use Rattle.pairs.specs.Chains.{accessOf, Nearest}
+use Rattle.pairs.proofs.Chains.{next-place}
 use Rattle.pairs.proofs.Race.{pairIn, row-each, behind-hit, pair-skip, pair-start}
 use Rattle.pairs.proofs.Stores.{stored-none, stored-more, stored-skip, stored-room, stored-all}
 use Rattle.pairs.proofs.list_row.Statement.{statement}
@@ -35,44 +34,28 @@ module _ (s : tie.Start Inv-loop μ-loop) where
   abbrev order : List ℕ
   order = s .args .order .now
 
-  abbrev E : Recording
-  E = recordingBy (s .args .records .now) (s .args .counts) []
-
-  abbrev X : Vectors
-  X = vectorsIn (s .args .records .now) (s .args .counts) (s .args .safe .now)
-
-  abbrev R : Vectors
-  R = vectorsIn (s .args .records .now) (s .args .counts) (s .args .recorded .now)
-
   -- the cell of the event at place i
   abbrev cell : ℕ
-  cell = objectOf E (getD order (s .args .i) 0)
+  cell = eventIn (eventsOf (s .args .records .now)) (getD order (s .args .i) 0) .object
 
   abbrev pairs : ℕ → List Entry
-  pairs = pairIn E X R order (s .args .i)
+  pairs = over pairIn (s .args .records .now) (s .args .counts) (s .args .safe .now) (s .args .recorded .now) order (s .args .i)
+
+  whole : over rowOf (s .args .records .now) (s .args .counts) (s .args .safe .now) (s .args .recorded .now) order (s .args .i) ≡ each pairs (length order)
+  whole = row-each _ _ _ order (s .args .i)
 
   -- the place behind i in its chain
   behind : Nearest (s .args .records .now) order cell (s .args .i + 1) (getD (s .args .chain .now) (s .args .i) 0)
-  behind = let i = s .pre .0 .2 in s .pre .0 .1 .chained .links (s .args .i) cell (omega arith) (i .placed) (i .cell) (i .access)
+  behind = let i = s .pre .0 .2 in next-place (s .pre .0 .1) cell (i .cell) (s .args .i) (i .placed) (i .access)
 
   few-places : length order ≤ 1024
   few-places = s .pre .0 .1 .along .few
-
-  -- nothing is passed over, neither at the start nor on the way
-  none : each pairs (getD (s .args .chain .now) (s .args .i) 0) ≡ []
-  none = pair-start (s .args .records .now) (s .args .counts) X R order (s .args .i) _ behind
-
-  skip : (m j : ℕ) → Nearest (s .args .records .now) order cell m j → each pairs j ≡ each pairs m
-  skip m j n = pair-skip (s .args .records .now) (s .args .counts) X R order (s .args .i) m j n
-
-  whole : rowOf E X R order (s .args .i) ≡ each pairs (length order)
-  whole = row-each E X R order (s .args .i)
 
 loop-holds : tie.Need-loop-holds Inv-loop μ-loop
 loop-holds c =
     let s = c .before .before .before .before .before .before .before .before in
     let n = behind s in
-    (omega (arith, n .low), n .high, omega arith, c .before .at-place .ensures, refl, n .hit, stored-none _ _ _ (none s))
+    (omega (arith, n .low), n .high, omega arith, c .before .at-place .ensures, refl, n .hit, stored-none _ _ _ (pair-start _ _ _ _ (order s) (s .args .i) _ n))
 
 -- the place at hand, and the next of the chain
 module _ (c : tie.After-at-place2 Inv-loop μ-loop) where
@@ -86,10 +69,10 @@ module _ (c : tie.After-at-place2 Inv-loop μ-loop) where
   inside = omega arith
 
   near : Nearest (s .args .records .now) (order s) (cell s) (k .loop .j + 1) (getD (s .args .chain .now) (k .loop .j) 0)
-  near = s .pre .0 .1 .chained .links (k .loop .j) (cell s) (omega arith) inside (s .pre .0 .2 .cell) (k .loop .inv .5 inside)
+  near = next-place (s .pre .0 .1) (cell s) (s .pre .0 .2 .cell) (k .loop .j) inside (k .loop .inv .5 inside)
 
-  the-pair : pairs s (k .loop .j) ≡ pairAt (E s) (X s) (R s) (k .before .before .at-place .result) (c .at-place2 .result)
-  the-pair = behind-hit (E s) (X s) (R s) (order s) _ _ (s .args .i) (k .loop .j) (k .loop .inv .3) (c .at-place2 .ensures) (k .loop .inv .0)
+  the-pair : pairs s (k .loop .j) ≡ over pairAt (s .args .records .now) (s .args .counts) (s .args .safe .now) (s .args .recorded .now) (k .before .before .at-place .result) (c .at-place2 .result)
+  the-pair = behind-hit _ _ _ (order s) _ _ (s .args .i) (k .loop .j) (k .loop .inv .3) (c .at-place2 .ensures) (k .loop .inv .0)
 
   room : k .loop .next + 3 * length (pairs s (k .loop .j)) ≤ length (k .loop .out)
   room =
@@ -116,7 +99,7 @@ loop-again c =
       p .inv .3,
       f .list-pair .kept .1 .1 .1 .1 .1 .1 .1 .0 ∙ p .inv .4,
       n .hit,
-      stored-skip (pairs (s d)) _ _ (skip (s d) _ _ n) (stored-more (pairs (s d)) (p .j) (p .inv .6) (rw (the-pair d) (f .list-pair .ensures))),
+      stored-skip (pairs (s d)) _ _ (pair-skip _ _ _ _ (order (s d)) (s d .args .i) _ _ n) (stored-more (pairs (s d)) (p .j) (p .inv .6) (rw (the-pair d) (f .list-pair .ensures))),
     )
 
 returns : tie.Need-returns Inv-loop μ-loop
