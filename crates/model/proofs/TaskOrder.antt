@@ -18,7 +18,7 @@ use Rattle.model.proofs.Place.{element, length-once}
 use Rattle.model.proofs.Picked.{picked-occurs, picked-mem, picked-in}
 use Rattle.model.proofs.Each.{each-of, each-in}
 
-pub count-each : {A : Type 0} (p : A → Bool) (f : ℕ → List A) (n : ℕ) → count p (each f n) ≡ sum (λ i. count p (f i)) n
+count-each : {A : Type 0} (p : A → Bool) (f : ℕ → List A) (n : ℕ) → count p (each f n) ≡ sum (λ i. count p (f i)) n
 unfolding count each sum
 count-each p f zero = refl
 count-each p f (suc n) = count-append p (each f n) (f n) ∙ ap (λ (k : ℕ). k + count p (f n)) (count-each p f n)
