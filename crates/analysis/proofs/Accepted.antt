@@ -13,6 +13,7 @@ use Rattle.model.specs.Recording.{Recording, size, kindOf, objectOf, classOf, A
 use Rattle.model.specs.File.{trailerOf, recordBytes, levelCount, levelBytes, recordingBy, recordingOf}
 use Rattle.model.specs.Reading.{fileCheck, readingOf}
 use Rattle.model.proofs.Accept.{task-inside, object-inside}
+use Rattle.model.proofs.LastEvent.{none-after-join}
 use Rattle.model.proofs.Files.{sound, bytes-length, size-records}
 use Rattle.recording.proofs.Files.{accepted-is, within}
 use Rattle.analysis.specs.Lent.{Ready}
@@ -61,6 +62,7 @@ module _ (f : List ℕ) (h : Trailer) (q : readingOf f ≡ Reading.Accepted h) w
                 few = omega (arith, n, r .few-records);
                 named = task-inside E acc;
                 waits = λ e l w. omega (arith, m, r .few-semaphores, semaphore-inside E acc e l w);
+                joined = none-after-join E acc;
               };
           tasks = omega (arith, t, r .few-tasks);
           cells = omega (arith, d, r .few-cells);

@@ -9,7 +9,8 @@ ghost use Rattle.model.specs.Numbers.{lastOf};
 ghost use Rattle.model.specs.Recording.{startOf, eventIn, ofTask, isOn};
 ghost use Rattle.model.specs.File.{u16At, eventsOf, recordBytes, levelCount, levelBytes, levelsBy};
 ghost use Rattle.model.specs.Reading.{mostTasks, mostCells, mostEvents};
-ghost use Rattle.model.specs.Passes.{beforeOrFork};
+ghost use Rattle.model.specs.Passes.{lastEvent, beforeOrFork};
+ghost use Rattle.model.specs.LastEvent.{recordsRead};
 ghost use Rattle.model.specs.Pairs.{ownEvents, taskOrder};
 ghost use Rattle.events.specs.Chains.{among, amongIn, byTask, Along, putFirst, linked, Chained};
 ghost use Rattle.events.specs.Kept.{Positions, Below, foundBelow, Before, Tasked};
@@ -91,8 +92,17 @@ pub fn is_on(records: &[u8], e: usize, kind: u8, object: u16) -> bool
     (v.kind == kind) & (v.object == object)
 }
 
+// Whether event e is this task's.
+fn is_of_task(records: &[u8], e: usize, task: u16) -> bool
+    requires { ⌜ 4 * e + 3 < length (now records) ⌝ }
+    ensures { λ r. ⌜ r ≡ ofTask task (eventIn (eventsOf (now (records .entry))) e) ⌝ }
+{
+    let v = event_at(records, e);
+    v.task as u16 == task
+}
+
 // The last of the first n events that is this task's, found by a call on the record one lower.
-pub fn task_before(records: &[u8], n: usize, task: u16) -> Found
+fn task_before(records: &[u8], n: usize, task: u16) -> Found
     requires { ⌜ 4 * n ≤ length (now records) ⌝ }
     ensures { λ r. ⌜ r ≡ lastOf (λ a. ofTask task (eventIn (eventsOf (now (records .entry))) a)) n ⌝ }
 {
@@ -100,8 +110,7 @@ pub fn task_before(records: &[u8], n: usize, task: u16) -> Found
         return Found::Nothing;
     }
     let e = n - 1;
-    let v = event_at(records, e);
-    if v.task as u16 == task {
+    if is_of_task(records, e, task) {
         return Found::At(e);
     }
     task_before(records, e, task)
@@ -120,6 +129,37 @@ pub fn last_on(records: &[u8], n: usize, kind: u8, object: u16) -> Found
         }
     }
     Found::Nothing
+}
+
+// What a look back found, and how many records it read.
+pub struct Look {
+    pub last: Found,
+    pub read: usize,
+}
+
+// The last record of this task in a part of the records, by its number within the part, and how many records were read: the
+// look goes back from the part's end and stops at the first hit. Bytes behind the last whole record are no record.
+pub fn last_event(part: &[u8], task: u16) -> Look
+    ensures { λ r. ⌜ r .last ≡ lastEvent (eventsOf (now (part .entry))) task ⌝ }
+    ensures { λ r. ⌜ r .read ≡ recordsRead (eventsOf (now (part .entry))) task ⌝ }
+{
+    let mut left = part.len() / 4;
+    let mut read = 0;
+    while 0 < left {
+        let e = left - 1;
+        read += 1;
+        if is_of_task(part, e, task) {
+            return Look {
+                last: Found::At(e),
+                read,
+            };
+        }
+        left = e;
+    }
+    Look {
+        last: Found::Nothing,
+        read,
+    }
 }
 
 // The position of each event, in one look: `own` counts the records passed of each task, which is a byte.

@@ -11,6 +11,7 @@ use Rattle.model.specs.Walking.{stepAt}
 use Rattle.model.specs.Orders.{place, fileOrder}
 use Rattle.model.specs.Vectors.{position, flat, start, ordered, unordered}
 use Rattle.model.specs.Passes.{sources, gathered, stepOne, signalsOn, waitsOn, needed, candidates, served, raised, passTo, pass, further, run}
+use Rattle.model.specs.LastEvent.{recordsRead}
 use Rattle.model.specs.Recorded.{matched, recordedTo, recorded}
 use Rattle.model.specs.Pairs.{conflict, racePair, mark, entriesOf, cellEntries, entriesIn, taskOrder, entries, listed, entryNumbers}
 use Rattle.model.specs.Analysing.{filled, workCheck, analysisCheck, analysisOf, workAfterAnalysing, listAfterAnalysing}
@@ -25,7 +26,7 @@ unfolding sum count listFrom each waitKept lifeKept classOf knownKind named reco
 reading = tt
 
 vectors : Unit {0}
-unfolding place fileOrder filter flatMap flatMapTails picked lastOf nth largest insert sort kthLeast position flat start ordered unordered sources gathered stepOne signalsOn waitsOn needed candidates served raised passTo pass further run matched recordedTo recorded
+unfolding place fileOrder filter flatMap flatMapTails picked lastOf nth largest insert sort kthLeast position flat start ordered unordered sources gathered stepOne signalsOn waitsOn needed candidates served raised passTo pass further run recordsRead matched recordedTo recorded
 vectors = tt
 
 calls : Unit {0}

@@ -12,6 +12,7 @@ pub mod Rules
 pub mod Sources
 pub mod Accept
 pub mod FileOrder
+pub mod LastEvent
 pub mod Positions
 pub mod Sound
 pub mod Climb

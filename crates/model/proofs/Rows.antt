@@ -10,6 +10,7 @@ use Rattle.model.specs.declared.Written.{Written}
 use Rattle.model.specs.Rows.Faults.{Faults}
 use Rattle.model.specs.Rows.Parts.{Parts}
 use Rattle.model.specs.Rows.Raised.{Raised}
+use Rattle.model.specs.Rows.Looked.{LookedAt}
 use Rattle.model.specs.Rows.Conflicts.{Conflicts}
 use Rattle.model.specs.Rows.Table.{Table}
 use Rattle.model.specs.Rows.Lent.{Lent}
@@ -91,6 +92,19 @@ raised = record {
   slow-2 = (refl, refl, refl);
   slow-settled = (refl, refl, refl);
   slow-recorded = refl;
+}
+
+pub looked-at : LookedAt
+unfolding rows
+looked-at = record {
+  joined = (refl, refl);
+  joined-in-part = (refl, refl);
+  last-record = (refl, refl);
+  first-record = (refl, refl);
+  no-record = (refl, refl);
+  no-bytes = (refl, refl);
+  three-bytes = (refl, refl);
+  seven-bytes = (refl, refl);
 }
 
 pub conflicts : Conflicts

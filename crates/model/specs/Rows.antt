@@ -7,6 +7,7 @@ pub mod Instance
 pub mod Faults
 pub mod Parts
 pub mod Raised
+pub mod Looked
 pub mod Conflicts
 pub mod Table
 pub mod Lent

@@ -5,11 +5,13 @@ ghost use mathlib.Core.List.{[], _++_};
 ghost use lib.Dec.{eqb};
 ghost use lib.ListN.{length, drop};
 ghost use lib.Seq.{sets};
-ghost use Rattle.model.specs.Recording.{kindOf, join};
+ghost use mathlib.Core.Bool.{true};
+ghost use Rattle.model.specs.Recording.{eventIn, kindOf, join, isJoin};
 ghost use Rattle.model.specs.File.{eventsOf, levelsBy, recordingBy};
 ghost use Rattle.model.specs.Vectors.{flat, start, ordered};
-ghost use Rattle.model.specs.Passes.{joinSources, stepOne, kOf, pass, run};
+ghost use Rattle.model.specs.Passes.{lastEvent, joinSources, stepOne, kOf, pass, run};
 ghost use Rattle.model.specs.Recorded.{matched, recorded};
+ghost use Rattle.model.specs.LastEvent.{NoneAfterJoin};
 ghost use Rattle.vectors.specs.Rows.{Rose};
 ghost use Rattle.passes.specs.Lent.{vectorsIn, over, Becomes, Fitting, Numbered, Records, Placed, Inside, raisedFound};
 ghost use Rattle.events.specs.Kept.{Below, Before};
@@ -68,6 +70,15 @@ fn raise_found(v: &mut [u16], e: usize, tasks: usize, from: Found) -> bool
     }
 }
 
+// The last event of the task that is joined at e: none follows the join, so the look goes back from there.
+fn last_joined(records: &[u8], e: usize, task: u16) -> Found
+    requires { ⌜ NoneAfterJoin (eventsOf (now records)) × Numbered (now records) e × (isJoin task (eventIn (eventsOf (now records)) e) ≡ true) ⌝ }
+    ensures { λ r. ⌜ r ≡ lastEvent (eventsOf (now (records .entry))) task ⌝ }
+{
+    let look = events::last_event(&records[..4 * e], task);
+    look.last
+}
+
 // For a join of t, raises vector e to those of the fork of t and of t's last event. Answers whether any number rose.
 fn raise_by_join(records: &[u8], counts: Counts, e: usize, v: &mut [u16]) -> bool
     requires { ⌜ Records (now records) counts × Fitting (now records) counts (now v) × Numbered (now records) e ⌝ }
@@ -82,7 +93,7 @@ fn raise_by_join(records: &[u8], counts: Counts, e: usize, v: &mut [u16]) -> boo
     let tasks = counts.tasks as usize;
     let fork = events::last_on(records, n, FORK, j.object);
     let x = raise_found(v, e, tasks, fork);
-    let last = events::task_before(records, n, j.object);
+    let last = last_joined(records, e, j.object);
     let y = raise_found(v, e, tasks, last);
     x | y
 }

@@ -1,6 +1,6 @@
 -- raise_by_join meets its contract: the fork's vector is taken, then that of the last event.
 -- Assumes nothing.
-use mathlib.Core.Path.{_≡_, sym, ap, _∙_}
+use mathlib.Core.Path.{_≡_, refl, sym, ap, _∙_}
 use mathlib.Core.List.{[]}
 use Prim.Native.Nat.{_/_}
 use native.Mathlib.Omega.{arith}
@@ -9,6 +9,7 @@ use lib.ListN.{length}
 use Rattle.model.specs.declared.Event.{Event}
 use Rattle.model.specs.Recording.{size, eventIn, isFork, ofTask}
 use Rattle.model.specs.File.{eventsOf, recordingBy}
+use Rattle.model.proofs.Tests.{both, eq-eqb}
 use Rattle.vectors.proofs.Chunks.{next-row, chunks-shaped}
 use Rattle.vectors.proofs.Rising.{rose-none, rose-then}
 use Rattle.passes.specs.Lent.{vectorsIn}
@@ -36,6 +37,16 @@ raise-found-requires c κs =
     let n : length (s .args .records .now) / 4 ≡ size E = omega (arith, s .pre .0 .whole) in
     (omega (arith, next-row (s .args .e) (size E) m (s .pre .2)), inside m (size E) _ (c .before .last-on .result) (s .pre .1) (found-below _ _ (size E) _ (c .before .last-on .ensures) n))
 
+last-joined-requires : tie.Need-last-joined-requires
+last-joined-requires c κs =
+    let s = c .before .before .before .before .before .before .before .before .before .before .before in
+    let w = c .before .before .before .before .before .before .before .before .event-at .ensures in
+    let k = c .before .before .before .before .before .before .if1 .left in (
+      s .pre .0 .joined,
+      s .pre .2,
+      both (eq-eqb _ _ (sym (ap (λ (v : Event). v .kind) w) ∙ k)) (eq-eqb _ _ (sym (ap (λ (v : Event). v .object) w))),
+    )
+
 raise-found-requires-2 : tie.Need-raise-found-requires-2
 raise-found-requires-2 c κs =
     let s = c .before .before .before .before .before .before .before .before .before .before .before .before .before in
@@ -43,7 +54,7 @@ raise-found-requires-2 c κs =
     let m = s .args .counts .tasks in
     let n : length (s .args .records .now) / 4 ≡ size E = omega (arith, s .pre .0 .whole) in
     let k = c .before .before .before .before .raise-found .kept .0 ∙ s .pre .1 in
-    (omega (arith, next-row (s .args .e) (size E) m (s .pre .2)), inside m (size E) _ (c .before .task-before .result) k (found-below _ _ (size E) _ (c .before .task-before .ensures) n))
+    (omega (arith, next-row (s .args .e) (size E) m (s .pre .2)), inside m (size E) _ (c .before .last-joined .result) k (found-below _ _ (size E) _ (c .before .last-joined .ensures) refl))
 
 returns-2 : tie.Need-returns-2
 returns-2 c =
@@ -55,8 +66,8 @@ returns-2 c =
     let y = c .before .before .raise-found2 in
     let w = c .before .before .before .before .before .before .before .before .before .before .before .before .before .event-at .ensures in
     let fork = searched (λ v a. isFork (v .object) (eventIn l a)) _ _ _ (size E) (c .before .before .before .before .before .before .before .before .before .last-on .result) (c .before .before .before .before .before .before .before .before .before .last-on .ensures) w n in
-    let last = searched (λ v a. ofTask (v .object) (eventIn l a)) _ _ _ (size E) (c .before .before .before .before .task-before .result) (c .before .before .before .before .task-before .ensures) w n in (
-      join-taken E (s .args .v .now) (x .last .0) (y .last .0) (s .args .e) (c .before .before .before .before .before .before .before .before .before .last-on .result) (c .before .before .before .before .task-before .result) (s .pre .1) (x .kept .0 ∙ s .pre .1) (s .pre .2)
+    let last = searched (λ v a. ofTask (v .object) (eventIn l a)) _ _ _ (size E) (c .before .before .before .before .last-joined .result) (c .before .before .before .before .last-joined .ensures) w refl in (
+      join-taken E (s .args .v .now) (x .last .0) (y .last .0) (s .args .e) (c .before .before .before .before .before .before .before .before .before .last-on .result) (c .before .before .before .before .last-joined .result) (s .pre .1) (x .kept .0 ∙ s .pre .1) (s .pre .2)
           (sym (ap (λ (v : Event). v .kind) w) ∙ c .before .before .before .before .before .before .before .before .before .before .before .if1 .left) fork last (x .ensures .0) (y .ensures .0),
       rose-then (x .ensures .1) (y .ensures .1),
     )
@@ -70,7 +81,7 @@ raise-by-join-spec =
     (λ c. search needs)
     (λ c κs. omega arith)
     raise-found-requires
-    (λ c κs. omega arith)
+    last-joined-requires
     raise-found-requires-2
     (λ c. omega arith)
     returns-2)
