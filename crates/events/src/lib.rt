@@ -1,6 +1,6 @@
-// The records as lent bytes: an event's fields, searches over the first records, and what one look at all records keeps
-// of each: positions, the event before, chains of the events on one object, and the task order. And the level bytes: start
-// counts.
+// The records as lent bytes: an event's fields, searches over the first records, the look back over a part for a task's last
+// record, and what one look at all records keeps of each: positions, the event before, chains of the events on one object,
+// and the task order. And the level bytes: start counts.
 ghost use mathlib.Core.Path.{_≡_};
 ghost use Prim.Native.Nat.{_+_, _*_, _/_, _≤_, _<_};
 ghost use lib.ListN.{length, getD, take};
@@ -131,7 +131,7 @@ pub fn last_on(records: &[u8], n: usize, kind: u8, object: u16) -> Found
     Found::Nothing
 }
 
-// What a look back found, and how many records it read.
+// What a look back over a part of the records found, and how many of them it read.
 pub struct Look {
     pub last: Found,
     pub read: usize,

@@ -52,6 +52,7 @@ last-cut p e (suc n) h none =
     last-or-lower k (λ q. ap (lastOf p) (sym q))
     (λ k. rw (none n (omega arith) (omega arith), lastOf) (last-cut p e n (omega arith) (λ a m l. none a m (omega arith))))
 
+-- so the records before the join have the last event, where none follows the join
 pub cut-at-join : (l : List Event) → NoneAfterJoin l → (t e : ℕ) → e < length l → isJoin t (eventIn l e) ≡ true → lastEvent l t ≡ lastEvent (take e l) t
 cut-at-join l none t e h j =
     last-cut (λ a. ofTask t (eventIn l a)) e (length l) (omega arith) (λ a k m. none t e a j k m)

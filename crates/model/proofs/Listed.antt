@@ -133,38 +133,6 @@ module _ (E : Recording) (X R : Vectors) where
   behind : {o : List ℕ} {x a e m : ℕ} → Entered E X R o a e m → Entered E X R (x ∷ o) a e m
   behind r = record { first-in = List·Memᴰ·tail (r .first-in); second-in = List·Memᴰ·tail (r .second-in); cell = r .cell; race = r .race; marked = r .marked }
 
-  -- an entry of a row
-  pub row-of : (c x : ℕ) (o : List ℕ) (p : Entry) → List·Memᴰ p (rowAt E X R c x o)
-      → (e : ℕ) × List·Memᴰ e o × (objectOf E x ≡ c) × (racePair E X x e ≡ true) × (p ≡ entry E R x e)
-  unfolding entriesOf
-  row-of c x o p k =
-      let (t, m) = where-of (entriesOf E X R x o) (eqb (objectOf E x) c) k in
-      let (e, i, n) = flat-of p _ o m in
-      let (u, r) = where-of (entry E R x e ∷ []) (racePair E X x e) n in
-      (e, i, eqb-true _ c t, u, List·Memᴰ·eq-of-singleton r)
-
-  -- an entry of a cell
-  cell-of : (c : ℕ) → c < cells E → (o : List ℕ) (p : Entry) → List·Memᴰ p (cellEntries E X R o c) → Entered E X R o (p .first) (p .second) (p .mark)
-  unfolding cellEntries flatMapTails
-  cell-of c l [] p h = absurd (List·Memᴰ·not-nil h)
-  cell-of c l (x ∷ o) p h = go (List·Memᴰ·append-cases (rowAt E X R c x o) h) (λ k. cell-of c l o p k)
-    where
-      go : List·Memᴰ p (rowAt E X R c x o) ⊎ List·Memᴰ p (cellEntries E X R o c) → (List·Memᴰ p (cellEntries E X R o c) → Entered E X R o (p .first) (p .second) (p .mark))
-          → Entered E X R (x ∷ o) (p .first) (p .second) (p .mark)
-      go (inr k) ih = behind (ih k)
-      go (inl k) ih =
-          let (e, i, t, u, same) = row-of c x o p k in
-          subst (λ (q : Entry). Entered E X R (x ∷ o) (q .first) (q .second) (q .mark)) (sym same)
-          (record { first-in = List·Memᴰ·head refl; second-in = List·Memᴰ·tail i; cell = subst (λ (y : ℕ). y < cells E) (sym t) l; race = u; marked = refl })
-
-  pub entry-of : (o : List ℕ) (p : Entry) → List·Memᴰ p (entriesIn E X R o) → Entered E X R o (p .first) (p .second) (p .mark)
-  unfolding entriesIn
-  entry-of o p h = let (c, l, m) = each-of p _ (cells E) h in cell-of c l o p m
-
-  pub among-of : (o : List ℕ) (a e m : ℕ) → Among (entriesIn E X R o) a e m → Entered E X R o a e m
-  among-of o a e m (inl h) = entry-of o (record { first = a; second = e; mark = m }) h
-  among-of o a e m (inr h) = turned (entry-of o (record { first = e; second = a; mark = m }) h)
-
   -- a race pair is entered by the one of its events that stands first
   row-in : (a e : ℕ) (o : List ℕ) → List·Memᴰ e o → racePair E X a e ≡ true → List·Memᴰ (entry E R a e) (rowAt E X R (objectOf E a) a o)
   unfolding entriesOf
@@ -204,6 +172,38 @@ module _ (E : Recording) (X R : Vectors) where
       listed (inr k) =
           inr
           (subst (λ (n : ℕ). List·Memᴰ (record { first = e; second = a; mark = n }) (entriesIn E X R o)) (mark-turned e a) (here (entry E R e a) k))
+
+  -- an entry of a row
+  pub row-of : (c x : ℕ) (o : List ℕ) (p : Entry) → List·Memᴰ p (rowAt E X R c x o)
+      → (e : ℕ) × List·Memᴰ e o × (objectOf E x ≡ c) × (racePair E X x e ≡ true) × (p ≡ entry E R x e)
+  unfolding entriesOf
+  row-of c x o p k =
+      let (t, m) = where-of (entriesOf E X R x o) (eqb (objectOf E x) c) k in
+      let (e, i, n) = flat-of p _ o m in
+      let (u, r) = where-of (entry E R x e ∷ []) (racePair E X x e) n in
+      (e, i, eqb-true _ c t, u, List·Memᴰ·eq-of-singleton r)
+
+  -- an entry of a cell
+  cell-of : (c : ℕ) → c < cells E → (o : List ℕ) (p : Entry) → List·Memᴰ p (cellEntries E X R o c) → Entered E X R o (p .first) (p .second) (p .mark)
+  unfolding cellEntries flatMapTails
+  cell-of c l [] p h = absurd (List·Memᴰ·not-nil h)
+  cell-of c l (x ∷ o) p h = go (List·Memᴰ·append-cases (rowAt E X R c x o) h) (λ k. cell-of c l o p k)
+    where
+      go : List·Memᴰ p (rowAt E X R c x o) ⊎ List·Memᴰ p (cellEntries E X R o c) → (List·Memᴰ p (cellEntries E X R o c) → Entered E X R o (p .first) (p .second) (p .mark))
+          → Entered E X R (x ∷ o) (p .first) (p .second) (p .mark)
+      go (inr k) ih = behind (ih k)
+      go (inl k) ih =
+          let (e, i, t, u, same) = row-of c x o p k in
+          subst (λ (q : Entry). Entered E X R (x ∷ o) (q .first) (q .second) (q .mark)) (sym same)
+          (record { first-in = List·Memᴰ·head refl; second-in = List·Memᴰ·tail i; cell = subst (λ (y : ℕ). y < cells E) (sym t) l; race = u; marked = refl })
+
+  pub entry-of : (o : List ℕ) (p : Entry) → List·Memᴰ p (entriesIn E X R o) → Entered E X R o (p .first) (p .second) (p .mark)
+  unfolding entriesIn
+  entry-of o p h = let (c, l, m) = each-of p _ (cells E) h in cell-of c l o p m
+
+  pub among-of : (o : List ℕ) (a e m : ℕ) → Among (entriesIn E X R o) a e m → Entered E X R o a e m
+  among-of o a e m (inl h) = entry-of o (record { first = a; second = e; mark = m }) h
+  among-of o a e m (inr h) = turned (entry-of o (record { first = e; second = a; mark = m }) h)
 
 -- an entry is three numbers
 pub numbers-length : (l : List Entry) → length (entryNumbers l) ≡ 3 * length l

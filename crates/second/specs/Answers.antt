@@ -9,6 +9,7 @@ use Rattle.second.specs.declared.Reading.{Reading}
 use Rattle.second.specs.declared.Findings.{Findings}
 use Rattle.second.specs.declared.Reply.{Reply}
 use Rattle.second.specs.declared.Sent.{Sent}
+use Rattle.second.specs.declared.Look.{Look}
 use Rattle.second.specs.declared.scan.Trailer.{Trailer}
 use Rattle.second.specs.declared.scan.Fault.{Fault}
 
@@ -152,3 +153,10 @@ pub record Written (size starts room : ℕ) (s : Sent) : Type 0 where
 pub record Unsent (s : Sent) (o o′ : List ℕ) : Type 0 where
   pub length : s .length ≡ 0
   pub out : o′ ≡ o
+
+-- a look over n records: those from the hit on are counted, the hit among them; or all
+pub record Looked (n : ℕ) (l : Look) : Type 0 where
+  pub most : l .read ≤ n
+  pub least : l .found ≡ true → 1 ≤ l .read
+  pub hit : l .found ≡ true → l .«record» + l .read ≡ n
+  pub none : l .found ≡ false → (l .«record» ≡ 0) × (l .read ≡ n)

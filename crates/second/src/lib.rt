@@ -1,9 +1,10 @@
 // A second analyser, for tests: what documents 01 and 02 ask, by another method. One reading fills
 // arrays of state, a wait's signal is found by counting, the k-th least and the list are sorted by
-// counting. It is proved safe, with the range of each number that it answers and what a refusal leaves;
-// that the numbers are right is not proved: the trial compares them with the library's.
+// counting, and the look for a last event goes forward. It is proved safe, with the range of each number
+// that it answers and what a refusal leaves; that the numbers are right is not proved: the trial
+// compares them with the library's.
 ghost use mathlib.Core.Path.{_≡_};
-ghost use Prim.Native.Nat.{_/_, _≤_};
+ghost use Prim.Native.Nat.{_+_, _/_, _≤_, _<_};
 ghost use lib.ListN.{length};
 ghost use Rattle.second.specs.Answers.{
   Refused,
@@ -18,6 +19,7 @@ ghost use Rattle.second.specs.Answers.{
   WritingFault,
   Written,
   Unsent,
+  Looked,
 };
 
 mod listing;
@@ -25,6 +27,8 @@ mod memory;
 mod scan;
 mod vectors;
 mod writing;
+
+use memory::byte;
 
 // What a reading gives: a refusal's number and record; or 0, what the trailer says, and how many start
 // bytes stand before it.
@@ -61,6 +65,14 @@ pub struct Sent {
     pub refusal: u16,
     pub record: u16,
     pub length: usize,
+}
+
+// What a look for a task's last record gives: whether there is one, its number or else 0, and how many
+// records there are from it on, or else all.
+pub struct Look {
+    pub found: bool,
+    pub record: usize,
+    pub read: usize,
 }
 
 // Reads a file, and leaves its events, four numbers each, their links, and the start counts.
@@ -372,4 +384,40 @@ pub fn write(
         record: 0,
         length: records.len() + starts.len() + 16,
     }
+}
+
+// Goes on to record e from what the records before it gave: a record of the task starts the count again.
+fn look_at(part: &[u8], task: u16, e: usize, before: Look) -> Look
+    requires { ⌜ Looked e before × (e < length (now part) / 4) ⌝ }
+    ensures { λ l. ⌜ Looked (e + 1) l ⌝ }
+{
+    if byte(part, e * 4) == task {
+        return Look {
+            found: true,
+            record: e,
+            read: 1,
+        };
+    }
+    Look {
+        found: before.found,
+        record: before.record,
+        read: before.read + 1,
+    }
+}
+
+// The last record of a task in a part of the records, by its number in the part: one look from the first
+// record to the last. Bytes behind the last whole record do not count.
+pub fn last_event(part: &[u8], task: u16) -> Look
+    ensures { λ l. ⌜ Looked (length (now (part .entry)) / 4) l ⌝ }
+{
+    let n = part.len() / 4;
+    let mut look = Look {
+        found: false,
+        record: 0,
+        read: 0,
+    };
+    for e in 0..n {
+        look = look_at(part, task, e, look);
+    }
+    look
 }

@@ -28,7 +28,7 @@ pub(crate) struct Sizes {
     pub(crate) all: bool,
 }
 
-fn draw_shape(seed: &mut u32, m: Sizes) -> Shape {
+pub(crate) fn draw_shape(seed: &mut u32, m: Sizes) -> Shape {
     let p = make::draw_word(seed, 9);
     let n = make::draw_from(seed, m.least, m.more);
     let t = make::draw_from(seed, 1, m.tasks);

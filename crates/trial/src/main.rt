@@ -1,12 +1,13 @@
-// The trial: worked recordings, edge files, jobs recorded in several orders and generated recordings,
-// with the library and the second analyser compared in everything. Each group prints how many
-// comparisons it made, and each file at which the two differ. Groups are of edition 1 unless their name
-// says otherwise.
+// The trial: worked recordings, edge files, jobs recorded in several orders, looks for last events and
+// generated recordings, with the library and the second analyser compared in everything. Each group
+// prints how many comparisons it made, and each file at which the two differ. Groups are of edition 1
+// unless their name says otherwise.
 mod bytes;
 mod compare;
 mod edges;
 mod generated;
 mod lines;
+mod looks;
 mod make;
 mod ordered;
 mod refusals;
@@ -85,6 +86,16 @@ fn try_by_hand() {
     edges::try_start_trailers();
 }
 
+// Looks for the last event of a task.
+fn try_looks() {
+    looks::try_parts_of_five();
+    looks::try_lengths();
+    looks::try_any_bytes();
+    looks::try_drawn(b"last events, small recordings", 2042, 40, small(1));
+    looks::try_drawn(b"last events, middling, edition 2", 2043, 400, middling(2));
+    looks::try_drawn(b"last events, large recordings", 2044, 20, large(1));
+}
+
 // Recordings of edition 1.
 fn try_edition_one() {
     try_drawn(b"small recordings", 2021, 12000, small(1));
@@ -115,6 +126,7 @@ fn main() {
     try_by_hand();
     ordered::try_shuffled();
     ordered::try_wide();
+    try_looks();
     try_edition_one();
     try_edition_two();
 }

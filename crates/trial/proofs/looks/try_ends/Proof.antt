@@ -1,0 +1,26 @@
+-- `trial::looks::try_ends` is safe and ends. Nothing has to hold from turn to turn. The measure is what is left of the range. Assumes nothing.
+use Prim.Native.Nat.{_-_}
+use native.Mathlib.Omega.{arith}
+use Rattle.trial.proofs.looks.try_ends.Statement.{statement}
+use Rattle.trial.proofs.looks.try_ends.Tie as tie
+
+abbrev Inv-loop : tie.InvT-loop
+Inv-loop start bytes from tasks total₀ to₀ to-end total to = Unit {0}
+
+abbrev μ-loop : tie.MeasureT-loop
+μ-loop start bytes from tasks total₀ to₀ to-end total to = to-end - to
+
+pub try-ends-spec : {M : Type 1} → statement M
+try-ends-spec =
+    tie.close
+    (tie.spec
+    Inv-loop
+    μ-loop
+    (λ c κs. tt)
+    (λ c. tt)
+    (λ c κs. tt)
+    (λ c κs. tt)
+    (λ c. omega arith)
+    (λ c. omega arith)
+    (λ c. tt)
+    (λ c. tt))
