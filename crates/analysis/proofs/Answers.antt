@@ -46,14 +46,14 @@ module _ (f : List ℕ) (b : ℕ) (w l : List ℕ) where
       work-passed = rw (p, h)
 
       -- the list is too short, and the work numbers are filled
-      pub refused-list : (w′ l′ : List ℕ) (n : ℕ) → w′ ≡ filled (recordingOf f) b w → WrittenList (listed (recordingOf f) b) l l′ false n
+      pub refused-list : (w′ l′ : List ℕ) (n : ℕ) → w′ ≡ filled (recordingOf f) b w → WrittenList 3 (listed (recordingOf f) b) l l′ false n
           → Analysed f b w l (Analysis.Refused (Refusal.List n)) w′ l′
       unfolding analysisCheck
       refused-list w′ l′ n e o =
           by-analysis Check.Passed (Check.Failed (Refusal.List n)) work-passed (rw (work-passed, sym (o .room), o .counted)) _ _ _ refl e (o .written)
 
       -- all is well
-      pub finished : (w′ l′ : List ℕ) (m n : ℕ) (s : Bool) → w′ ≡ filled (recordingOf f) b w → WrittenList (listed (recordingOf f) b) l l′ true n
+      pub finished : (w′ l′ : List ℕ) (m n : ℕ) (s : Bool) → w′ ≡ filled (recordingOf f) b w → WrittenList 3 (listed (recordingOf f) b) l l′ true n
           → m ≡ passesMade (recordingOf f) b → s ≡ isSettled (recordingOf f) b → Analysed f b w l (Analysis.Done m s n) w′ l′
       unfolding analysisCheck
       finished w′ l′ m n s e o x y =

@@ -1,5 +1,3 @@
-pub mod Parts
-pub mod Accepted
 pub mod Answers
 pub mod Cases
 pub mod Handed

@@ -92,7 +92,7 @@ chained-by p q n k e chain h c =
 
 -- ---- the test of the code: of the kinds lo to hi, on an object below k
 
-or-none : (a b : Bool) → (a || b) ≡ false → (a ≡ false) × (b ≡ false)
+pub or-none : (a b : Bool) → (a || b) ≡ false → (a ≡ false) × (b ≡ false)
 or-none true b h = absurd (true≢false h)
 or-none false b h = (refl, h)
 

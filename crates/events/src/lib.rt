@@ -272,7 +272,7 @@ pub fn gather(records: &[u8], lo: u8, hi: u8, limit: u16) -> [u16; CHAINS]
     chain
 }
 
-// The event at place i of an order.
+// The event at place i of an order, or the next one in a chain.
 pub fn at_place(order: &[u16], i: usize) -> usize
     requires { ⌜ i < length (now order) ⌝ }
     ensures { λ r. ⌜ r ≡ getD (now (order .entry)) i 0 ⌝ }
@@ -297,7 +297,7 @@ pub fn gather_in(records: &[u8], order: &[u16], lo: u8, hi: u8, limit: u16) -> [
 }
 
 // Gathers the events of each task, which is a byte, in a chain, from the last event to the first.
-fn gather_tasks(records: &[u8]) -> [u16; CHAINS]
+pub fn gather_tasks(records: &[u8]) -> [u16; CHAINS]
     requires { ⌜ length (now records) ≤ 4 * mostEvents ⌝ }
     ensures { λ r. ⌜ Chained (byTask (now (records .entry))) (length (now (records .entry)) / 4) 256 0 r ⌝ }
 {

@@ -103,7 +103,7 @@ module _ (E : Recording) where
           (e, ap (taskOf E) e ∙ eqb-true (taskOf E i) t s)
 
       by-position : (x y : ℕ) → x < y → taskOf E x ≡ taskOf E y → sooner x y ≡ true
-      by-position x y l e = less-behind _ _ _ _ e (less-first _ _ [] [] (position-rises E x y l e))
+      by-position x y l e = less-behind _ _ _ _ e (less-first _ _ [] [] (position-rises (E .events) x y l e))
 
   order-rising : Rising sooner (taskOrder (E .events) (tasks E))
   unfolding taskOrder

@@ -1,8 +1,10 @@
--- What it says that a check passed.
+-- What it says that a check passed, and how checks made one after another go on.
 -- Assumes nothing.
-use mathlib.Core.Path.{_≡_, refl}
+use mathlib.Core.Path.{_≡_, refl, sym, _∙_}
 use mathlib.Core.Bool.{Bool, true, false}
-use Prim.Native.Nat.{ℕ}
+use Prim.Native.Nat.{ℕ, zero, suc, _+_, _-_, _<_}
+use native.Mathlib.Nat.{add-zero, add-suc}
+use native.Mathlib.Numerals.{add-one}
 use native.Mathlib.Omega.{arith}
 use Rattle.model.specs.declared.Refusal.{Refusal}
 use Rattle.model.specs.declared.Check.{Check}
@@ -18,3 +20,22 @@ unless-passed false r rest h = failed-passed r h
 pub then-passed : (c : Check) (rest : Unit {0} → Check) → andThen c rest ≡ Check.Passed → (c ≡ Check.Passed) × (rest tt ≡ Check.Passed)
 then-passed Check.Passed rest h = (refl, h)
 then-passed (Check.Failed r) rest h = failed-passed r h
+
+-- ---- checks made one after another: f says what the first n give, and `step` what each gives
+
+module _ (f step : ℕ → Check) (up : (n : ℕ) → f (suc n) ≡ andThen (f n) λ _. step n) where
+  -- a refusal stays the first
+  stays : (m d : ℕ) (x : Refusal) → Check.Failed x ≡ f m → Check.Failed x ≡ f (m + d)
+  stays m zero x p = rw add-zero p
+  stays m (suc d) x p = rw (add-suc m d, up (m + d), ← stays m d x p)
+
+  -- the check r, where those before it pass
+  module _ (i : ℕ) (r : Check) (p : Check.Passed ≡ f i) (q : r ≡ step i) where
+    here : r ≡ f (suc i)
+    here = rw (up i, ← p) q
+
+    pub none-yet : r ≡ Check.Passed → Check.Passed ≡ f (i + 1)
+    none-yet e = rw (add-one i) (sym e ∙ here)
+
+    pub the-first : (x : Refusal) → r ≡ Check.Failed x → (n : ℕ) → i < n → Check.Failed x ≡ f n
+    the-first x e n l = let k : n ≡ suc i + (n - suc i) = omega arith in rw k (stays (suc i) (n - suc i) x (sym e ∙ here))

@@ -86,7 +86,7 @@ module _ (E : Recording) where
   unfolding gathered
   gathered-at X from e t l = listOf-at (λ t. largest (λ s. number X s t) (e ∷ from)) 0 (tasks E) t l
 
-  raised-at : (X : Vectors) (e t : ℕ) → t < (tasks E)
+  pub raised-at : (X : Vectors) (e t : ℕ) → t < (tasks E)
       → getD (raised E X e) t 0 ≡ max (number (stepOne E X e) e t) (served E (stepOne E X e) e t)
   unfolding raised
   raised-at X e t l =

@@ -5,6 +5,7 @@ pub mod Counting
 pub mod Least
 pub mod Lists
 pub mod Each
+pub mod Alongside
 pub mod Stores
 pub mod Place
 pub mod Picked
@@ -22,10 +23,19 @@ pub mod Recorded
 pub mod Forward
 pub mod TaskOrder
 pub mod Listed
+pub mod Twins
+pub mod Monotone
+pub mod Quiet
+pub mod Below
 pub mod Levels
 pub mod Files
 pub mod Acceptable
 pub mod Promise
+pub mod WorkAlike
+pub mod SameOrders
+pub mod JointMarks
+pub mod JointPromise
+pub mod Together
 pub mod Questions
 pub mod SamePairs
 pub mod Ascending

@@ -55,6 +55,18 @@ nth-past [] k h = refl
 nth-past (x ∷ l) zero h = absurd (omega arith)
 nth-past (x ∷ l) (suc k) h = nth-past l k (omega arith)
 
+nth-inside : (l : List ℕ) (k : ℕ) → k < length l → nth l k ≡ Found.At (getD l k 0)
+unfolding nth
+nth-inside [] k h = absurd (not-suc-le-zero h)
+nth-inside (x ∷ l) zero h = refl
+nth-inside (x ∷ l) (suc k) h = nth-inside l k (omega arith)
+
+nth-at-place : (l : List ℕ) (k x : ℕ) → nth l k ≡ Found.At x → getD l k 0 ≡ x
+unfolding nth
+nth-at-place [] k x q = let z : _≡_ {A = ℕ} 0 1 = cc in absurd (omega arith)
+nth-at-place (y ∷ l) zero x q = cc
+nth-at-place (y ∷ l) (suc k) x q = nth-at-place l k x q
+
 module _ (p : ℕ → Bool) where
   one : ℕ → List ℕ
   one e = cond (p e) (e ∷ []) []
@@ -141,7 +153,7 @@ module _ (p : ℕ → Bool) where
       last true = add-zero (bit (q n))
       last false = refl
 
-  picked-length : (n : ℕ) → length (picked p n) ≡ tally p n
+  pub picked-length : (n : ℕ) → length (picked p n) ≡ tally p n
   unfolding picked each sum one
   picked-length zero = refl
   picked-length (suc n) =
@@ -155,7 +167,7 @@ module _ (p : ℕ → Bool) where
   picked-few n = let a = picked-length n in let b = sum-bound (λ e. bit (p e)) 1 n (λ e l. bit-le (p e) true (λ _. refl)) in omega arith
 
   -- the number of rank k stands at place k
-  nth-rank : (n s : ℕ) → s < n → p s ≡ true → nth (picked p n) (tally p s) ≡ Found.At s
+  pub nth-rank : (n s : ℕ) → s < n → p s ≡ true → nth (picked p n) (tally p s) ≡ Found.At s
   unfolding one
   nth-rank zero s l t = absurd (not-suc-le-zero l)
   nth-rank (suc n) s l t =
@@ -188,6 +200,13 @@ module _ (p : ℕ → Bool) where
 
   pub nth-found : (n k : ℕ) → k < tally p n → (x : ℕ) × (nth (picked p n) k ≡ Found.At x)
   nth-found n k h = let (s, l, q, r) = ranked p n k h in (s, sym (ap (nth (picked p n)) r) ∙ nth-rank n s l q)
+
+  -- the same, read off the list
+  pub rank-at : (n s : ℕ) → s < n → p s ≡ true → getD (picked p n) (tally p s) 0 ≡ s
+  rank-at n s l t = nth-at-place (picked p n) (tally p s) s (nth-rank n s l t)
+
+  pub at-rank : (n k : ℕ) → k < length (picked p n) → let x = getD (picked p n) k 0 in (x < n) × (p x ≡ true) × (tally p x ≡ k)
+  at-rank n k h = nth-of n k (getD (picked p n) k 0) (nth-inside (picked p n) k h)
 
 -- ---- those that pass first, then the others
 

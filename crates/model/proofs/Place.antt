@@ -120,7 +120,7 @@ unfolding sumOver
 length-over [] = refl
 length-over (x ∷ l) = let h = length-over l in omega arith
 
-sum-ones : (n : ℕ) → sum (λ e. 1) n ≡ n
+pub sum-ones : (n : ℕ) → sum (λ e. 1) n ≡ n
 unfolding sum
 sum-ones zero = refl
 sum-ones (suc n) = let h = sum-ones n in omega arith

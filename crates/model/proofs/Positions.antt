@@ -1,18 +1,19 @@
 -- Positions, and the starting vectors number by number.
 -- Assumes nothing.
 use Prim.Native.Nat.{ℕ, suc, _≤_, _<_}
-use mathlib.Core.Path.{_≡_, refl, sym, ap, subst, _∙_}
+use mathlib.Core.Path.{_≡_, refl, sym, ap, _∙_}
 use mathlib.Core.Bool.{cond}
 use mathlib.Core.List.{List, []}
-use native.Mathlib.Nat.{le-refl, le-of-eq}
+use native.Mathlib.Nat.{le-of-eq}
 use native.Mathlib.Omega.{arith}
 use lib.Dec.{eqb}
 use lib.ListN.{getD}
-use Rattle.model.specs.Numbers.{tally, listOf}
-use Rattle.model.specs.Recording.{Recording, size, tasks, event, taskOf, ofTask}
+use Rattle.model.specs.declared.Event.{Event}
+use Rattle.model.specs.Numbers.{sum, tally, listOf}
+use Rattle.model.specs.Recording.{Recording, size, tasks, eventIn, taskOf, ofTask}
 use Rattle.model.specs.Vectors.{position, number, start}
-use Rattle.model.proofs.Tests.{compared, eq-eqb}
-use Rattle.model.proofs.Sum.{tally-grow, tally-has, rank-rises}
+use Rattle.model.proofs.Tests.{compared, bit-true, eq-eqb}
+use Rattle.model.proofs.Sum.{rank-rises}
 use Rattle.model.proofs.Lists.{listOf-at}
 
 module _ (E : Recording) where
@@ -22,17 +23,28 @@ module _ (E : Recording) where
       ap (λ (r : List ℕ). getD r t 0) (listOf-at (λ e. listOf (λ t. cond (eqb t (taskOf E e)) (position (E .events) e) 0) (tasks E)) [] (size E) e l)
       ∙ listOf-at (λ t. cond (eqb t (taskOf E e)) (position (E .events) e) 0) 0 (tasks E) t k
 
-  pub position-pos : (e : ℕ) → 0 < position (E .events) e
-  unfolding position
-  position-pos e = tally-has (λ a. ofTask (taskOf E e) (event E a)) (suc e) e (le-refl (suc e)) (eq-eqb (taskOf E e) (taskOf E e) refl)
+module _ (l : List Event) where
+  -- as many of its task's records as stand before e, and e
+  pub position-rank : (e : ℕ) → position l e ≡ suc (tally (λ a. ofTask (eventIn l e .task) (eventIn l a)) e)
+  unfolding position sum
+  position-rank e = let b = bit-true (eq-eqb (eventIn l e .task) (eventIn l e .task) refl) in omega arith
 
-  pub position-rises : (a b : ℕ) → a < b → taskOf E a ≡ taskOf E b → position (E .events) a < position (E .events) b
-  unfolding position
-  position-rises a b l t =
-      subst (λ (x : ℕ). tally (λ d. ofTask x (event E d)) (suc a) < position (E .events) b) (sym t)
-      (let more = rank-rises (λ d. ofTask (taskOf E b) (event E d)) b (suc b) (le-refl (suc b)) (eq-eqb (taskOf E b) (taskOf E b) refl) in
-      let least = tally-grow (λ d. ofTask (taskOf E b) (event E d)) (suc a) b l in omega arith)
+  pub position-pos : (e : ℕ) → 0 < position l e
+  position-pos e = let r = position-rank e in omega arith
 
-  pub position-grows : (a b : ℕ) → a ≤ b → taskOf E a ≡ taskOf E b → position (E .events) a ≤ position (E .events) b
+  pub position-rises : (a b : ℕ) → a < b → eventIn l a .task ≡ eventIn l b .task → position l a < position l b
+  position-rises a b k t =
+      let p = position-rank a ∙ ap (λ (x : ℕ). suc (tally (λ d. ofTask x (eventIn l d)) a)) t in
+      let q = position-rank b in
+      let own = eq-eqb (eventIn l a .task) (eventIn l b .task) t in
+      let r = rank-rises (λ d. ofTask (eventIn l b .task) (eventIn l d)) a b k own in omega arith
+
+  pub position-grows : (a b : ℕ) → a ≤ b → eventIn l a .task ≡ eventIn l b .task → position l a ≤ position l b
   position-grows a b h t =
-      compared a b (λ l. let r = position-rises a b l t in omega arith) (λ e. le-of-eq (ap (position (E .events)) e)) (λ l. absurd (omega arith))
+      compared a b (λ k. let r = position-rises a b k t in omega arith) (λ e. le-of-eq (ap (position l) e)) (λ k. absurd (omega arith))
+
+  -- one event of a task has a position
+  pub position-one : (a b : ℕ) → eventIn l a .task ≡ eventIn l b .task → position l a ≡ position l b → a ≡ b
+  position-one a b t q =
+      compared a b (λ k. let r = position-rises a b k t in absurd (omega arith)) (λ e. e)
+      (λ k. let r = position-rises b a k (sym t) in absurd (omega arith))

@@ -185,7 +185,7 @@ module _ (E : Recording) (acc : Accepted E) where
   carry : (e : ℕ) → e < size E → ((s : ℕ) → s < e → Carried s) → Carried e
   carry e l ih a t k q =
       let inside = task-inside E acc a k in
-      let pos = position-pos E a in
+      let pos = position-pos (E .events) a in
       let reached = subst (λ (v : ℕ). position (E .events) a ≤ v) (recorded-at e (taskOf E a) l inside) q in
       cases (leb (position (E .events) a) (number (start E) e (taskOf E a)))
       (λ u. own (subst (λ (v : ℕ). position (E .events) a ≤ v) (start-at E e (taskOf E a) l inside) (leb-true _ _ u)))
@@ -205,7 +205,7 @@ module _ (E : Recording) (acc : Accepted E) where
       earlier m same =
           let (p, x, y, z, h) = previous-cause E a e m same in
           through p h
-          (le-trans (position-grows E a p x (same ∙ sym z))
+          (le-trans (position-grows (E .events) a p x (same ∙ sym z))
           (subst (λ (w : ℕ). position (E .events) p ≤ number R p w) (z ∙ sym same) (own-number p (omega arith))))
 
       own : position (E .events) a ≤ cond (eqb (taskOf E a) (taskOf E e)) (position (E .events) e) 0 → Goal
@@ -215,8 +215,8 @@ module _ (E : Recording) (acc : Accepted E) where
           let same = eqb-true (taskOf E a) (taskOf E e) u in
           let low : position (E .events) a ≤ position (E .events) e = rw u at p in
           compared a e (λ m. earlier m same) (λ d. le-of-eq (ap (λ (x : ℕ). number R x t) d))
-          (λ m. let r = position-rises E e a m (sym same) in absurd (omega arith)))
-          (λ u. let pos = position-pos E a in let low : position (E .events) a ≤ 0 = rw u at p in absurd (omega arith))
+          (λ m. let r = position-rises (E .events) e a m (sym same) in absurd (omega arith)))
+          (λ u. let pos = position-pos (E .events) a in let low : position (E .events) a ≤ 0 = rw u at p in absurd (omega arith))
 
   carried-below : (n e : ℕ) → e < n → e < size E → Carried e
   carried-below zero e h l = absurd (not-suc-le-zero h)
@@ -234,7 +234,7 @@ module _ (E : Recording) (acc : Accepted E) where
 
   pub up-own : (x a b : ℕ) → a ≤ b → taskOf E a ≡ taskOf E b → upTo E (recorded E) x b ≡ true → upTo E (recorded E) x a ≡ true
   up-own x a b h t u =
-      le-leb _ _ (le-trans (position-grows E a b h t) (subst (λ (w : ℕ). position (E .events) b ≤ number (recorded E) x w) (sym t) (leb-true _ _ u)))
+      le-leb _ _ (le-trans (position-grows (E .events) a b h t) (subst (λ (w : ℕ). position (E .events) b ≤ number (recorded E) x w) (sym t) (leb-true _ _ u)))
 
   pub up-cause : (x a s : ℕ) → x < size E → a < size E → List·Memᴰ s (causes (E .levels) (E .events) a) → upTo E (recorded E) x a ≡ true → upTo E (recorded E) x s ≡ true
   up-cause x a s l k h u =

@@ -42,7 +42,7 @@ start-rises E a e t k l q =
     let inside = ltb-true t (tasks E) h in
     let x = start-at E a t (omega arith) inside in
     let y = start-at E e t l inside in
-    let p = position-rises E a e k q in
+    let p = position-rises (E .events) a e k q in
     cases (eqb t (taskOf E e))
     (λ u.
     let v : cond (eqb t (taskOf E a)) (position (E .events) a) 0 ≡ position (E .events) a = rw (q, u) in

@@ -1,12 +1,15 @@
 -- The rows: each computes.
 -- Assumes nothing.
-use mathlib.Core.Path.{refl}
+use Prim.Native.Nat.{ℕ}
+use mathlib.Core.Path.{_≡_, refl}
 use Rattle.model.specs.declared.Refusal.{Refusal}
 use Rattle.model.specs.declared.Reading.{Reading}
 use Rattle.model.specs.declared.Analysis.{Analysis}
 use Rattle.model.specs.declared.Relation.{Relation}
 use Rattle.model.specs.declared.Answer.{Answer}
 use Rattle.model.specs.declared.Written.{Written}
+use Rattle.model.specs.declared.Joint.{Joint}
+use Rattle.model.specs.Refusals.{numberOf, recordOf, differingTask, differingPosition}
 use Rattle.model.specs.Rows.Faults.{Faults}
 use Rattle.model.specs.Rows.Parts.{Parts}
 use Rattle.model.specs.Rows.Raised.{Raised}
@@ -16,6 +19,7 @@ use Rattle.model.specs.Rows.Table.{Table}
 use Rattle.model.specs.Rows.Lent.{Lent}
 use Rattle.model.specs.Rows.Printed.{Printed}
 use Rattle.model.specs.Rows.Beyond.{Beyond}
+use Rattle.model.specs.Rows.Joined.{Joined}
 use Rattle.model.proofs.Computing.{rows, refusal}
 
 pub faults : Faults
@@ -246,3 +250,59 @@ beyond = record {
   bits-33 = refl;
   digits-21 = refl;
 }
+
+pub joined : Joined
+unfolding rows
+joined = record {
+  a = (refl, refl);
+  b = (refl, refl);
+  c = (refl, refl);
+  d = (refl, refl);
+  e = (refl, refl);
+  f = (refl, refl);
+  g = (refl, refl);
+  h = (refl, refl);
+  i = refusal Joint.Refused (Refusal.Life 0);
+  j = refusal Joint.Refused (Refusal.Empty 0);
+  sure-by-second = (refl, refl);
+  sure-by-first = (refl, refl);
+  in-order = (refl, refl);
+  in-order-turned = (refl, refl);
+  tasks = differ 0 0;
+  semaphores = differ 0 0;
+  cells = differ 0 0;
+  starts = differ 0 0;
+  second-start = differ 0 0;
+  starts-edition-1 = differ 0 0;
+  editions = (refl, refl);
+  counts-before-records = differ 0 0;
+  kind = differ 0 2;
+  object = differ 0 1;
+  missing-in-second = differ 1 2;
+  missing-in-first = differ 1 1;
+  own-order = differ 0 1;
+  lowest-task = differ 1 1;
+  tasks-swapped = differ 0 1;
+  work-first = refusal Joint.Refused Refusal.Work;
+  work-second = refusal Joint.Refused Refusal.Work;
+  list = refusal Joint.Refused (Refusal.List 1);
+  first-before-second = refusal Joint.Refused (Refusal.Life 0);
+  second-before-differ = refusal Joint.Refused (Refusal.Empty 0);
+  work-before-list = refusal Joint.Refused Refusal.Work;
+  first-work = refl;
+  second-work = refl;
+  entries = refl;
+  list-short = refl;
+  work-short-first = refl;
+  work-short-second = refl;
+  work-short-list = refl;
+  differ-first = refl;
+  differ-second = refl;
+  differ-list = refl;
+  refused-first = refl;
+  refused-second = refl;
+}
+  where
+    -- 14 at this task and position
+    differ : (t p : ℕ) → (r : Refusal) × (Joint.Refused (Refusal.Differ t p) ≡ Joint.Refused r) × (numberOf r ≡ 14) × (recordOf r ≡ 0) × (differingTask r ≡ t) × (differingPosition r ≡ p)
+    differ t p = (Refusal.Differ t p, refl, refl, refl, refl, refl)

@@ -16,11 +16,11 @@ use Rattle.model.specs.Refusals.{numberOf, recordOf}
 use Rattle.model.specs.Recording.{Recording, size, tasks, cells, objectOf}
 use Rattle.model.specs.File.{recordingOf}
 use Rattle.model.specs.Reading.{fileCheck, mostCells, mostEvents}
-use Rattle.model.specs.Passes.{run}
+use Rattle.model.specs.Passes.{run, budgetOf}
 use Rattle.model.specs.Pairs.{Entry, listed}
 use Rattle.model.specs.Analysing.{workCheck, analysisCheck}
 use Rattle.model.specs.Text.{bytes, decimalIn}
-use Rattle.model.specs.Report.{field, settledWord, resultLine, markWord, entryLine, entryText, entriesText, refusalLine, resultText, reportBy, budgetOf, isLong, reportOf, laid, filling}
+use Rattle.model.specs.Report.{field, settledWord, resultLine, markWord, entryLine, entryText, entriesText, refusalLine, resultText, reportBy, isLong, reportOf, laid, filling}
 use Rattle.model.specs.Uncut.{listNumbers, outBytes, Uncut}
 use Rattle.model.proofs.Tests.{cases, lt-ltb, leb-true}
 use Rattle.model.proofs.Checks.{unless-passed, then-passed}

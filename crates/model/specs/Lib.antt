@@ -23,4 +23,6 @@ pub mod Promise
 pub mod Questions
 pub mod SamePairs
 pub mod Ascending
+pub mod Together
+pub mod OneJob
 pub mod Rows

@@ -1,6 +1,6 @@
 -- Passes and safe vectors (document 01; 02, No. 1).
 -- Assumes nothing.
-use Prim.Native.Nat.{ℕ, zero, suc, _-_, max}
+use Prim.Native.Nat.{ℕ, zero, suc, _+_, _-_, _*_, max}
 use mathlib.Core.Bool.{Bool, true, false, not, _&&_}
 use mathlib.Core.List.{List, [], _∷_, _++_, map}
 use lib.Dec.{eqb}
@@ -137,3 +137,7 @@ passesMade E budget = run E budget .passes
 
 abbrev pub isSettled : Recording → ℕ → Bool
 isSettled E budget = run E budget .settled
+
+-- N × N + 1: with this budget every accepted recording is settled
+abbrev pub budgetOf : Recording → ℕ
+budgetOf E = size E * size E + 1

@@ -1,4 +1,4 @@
--- The refusal table (document 01, Refusal table; 02, No. 1), and checks made in its order.
+-- The refusal table (document 01, Refusal table; 02, No. 1 and 4), and checks made in its order.
 -- Assumes nothing.
 use Prim.Native.Nat.{ℕ}
 use mathlib.Core.Bool.{Bool, true, false}
@@ -20,6 +20,7 @@ numberOf (Refusal.List n) = 10
 numberOf Refusal.Event = 11
 numberOf Refusal.Out = 12
 numberOf Refusal.Starts = 13
+numberOf (Refusal.Differ t p) = 14
 
 -- the faulty record; 0 where no record is at fault
 abbrev pub recordOf : Refusal → ℕ
@@ -36,6 +37,7 @@ recordOf (Refusal.List n) = 0
 recordOf Refusal.Event = 0
 recordOf Refusal.Out = 0
 recordOf Refusal.Starts = 0
+recordOf (Refusal.Differ t p) = 0
 
 -- the pairs needed, which 10 also returns
 abbrev pub pairsOf : Refusal → ℕ
@@ -52,6 +54,41 @@ pairsOf (Refusal.List n) = n
 pairsOf Refusal.Event = 0
 pairsOf Refusal.Out = 0
 pairsOf Refusal.Starts = 0
+pairsOf (Refusal.Differ t p) = 0
+
+-- the task that differs, which 14 also returns
+abbrev pub differingTask : Refusal → ℕ
+differingTask Refusal.Short = 0
+differingTask Refusal.Edition = 0
+differingTask Refusal.Extent = 0
+differingTask Refusal.Count = 0
+differingTask (Refusal.Kind e) = 0
+differingTask (Refusal.Name e) = 0
+differingTask (Refusal.Life e) = 0
+differingTask (Refusal.Empty e) = 0
+differingTask Refusal.Work = 0
+differingTask (Refusal.List n) = 0
+differingTask Refusal.Event = 0
+differingTask Refusal.Out = 0
+differingTask Refusal.Starts = 0
+differingTask (Refusal.Differ t p) = t
+
+-- and its first position that does
+abbrev pub differingPosition : Refusal → ℕ
+differingPosition Refusal.Short = 0
+differingPosition Refusal.Edition = 0
+differingPosition Refusal.Extent = 0
+differingPosition Refusal.Count = 0
+differingPosition (Refusal.Kind e) = 0
+differingPosition (Refusal.Name e) = 0
+differingPosition (Refusal.Life e) = 0
+differingPosition (Refusal.Empty e) = 0
+differingPosition Refusal.Work = 0
+differingPosition (Refusal.List n) = 0
+differingPosition Refusal.Event = 0
+differingPosition Refusal.Out = 0
+differingPosition Refusal.Starts = 0
+differingPosition (Refusal.Differ t p) = p
 
 -- Tests are made in the table's order, and what follows a test is computed only where it passes.
 

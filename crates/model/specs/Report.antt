@@ -1,6 +1,6 @@
 -- What the program prints of a file (document 01, Two events, writing, printing). Every line ends in the byte 0A.
 -- Assumes nothing.
-use Prim.Native.Nat.{ℕ, _+_, _*_, min}
+use Prim.Native.Nat.{ℕ, _+_, min}
 use Prim.Native.String.{String}
 use mathlib.Core.Bool.{Bool, true, false}
 use mathlib.Core.List.{List, [], _∷_, _++_}
@@ -12,7 +12,7 @@ use Rattle.model.specs.declared.Check.{Check}
 use Rattle.model.specs.Refusals.{numberOf, recordOf}
 use Rattle.model.specs.Recording.{Recording, size, tasks, eventIn}
 use Rattle.model.specs.File.{recordingOf}
-use Rattle.model.specs.Passes.{run}
+use Rattle.model.specs.Passes.{run, budgetOf}
 use Rattle.model.specs.Pairs.{Entry, listed}
 use Rattle.model.specs.Analysing.{analysisCheck, workAfterAnalysing, listAfterAnalysing}
 use Rattle.model.specs.Text.{bytes, decimal}
@@ -51,10 +51,6 @@ entriesText l (p ∷ es) = entryText l p ++ entriesText l es
 -- the line of a refusal: number, then record
 unfoldable pub refusalLine : Refusal → List ℕ
 refusalLine r = field "refused " (numberOf r) ++ field " " (recordOf r) ++ bytes "\n"
-
--- the budget of the program: N × N + 1
-abbrev pub budgetOf : Recording → ℕ
-budgetOf E = size E * size E + 1
 
 -- the report of an analysis with a budget
 unfoldable pub resultText : Recording → ℕ → List ℕ

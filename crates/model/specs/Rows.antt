@@ -13,3 +13,4 @@ pub mod Table
 pub mod Lent
 pub mod Printed
 pub mod Beyond
+pub mod Joined

@@ -1,7 +1,7 @@
 // The plain types of the trace analyser, and the numbers that stand for its refusals and answers.
 // What a recording means, what analysing answers and what is promised is defined in specs/.
 ghost use mathlib.Core.Path.{_≡_};
-ghost use Rattle.model.specs.Refusals.{numberOf, recordOf, pairsOf};
+ghost use Rattle.model.specs.Refusals.{numberOf, recordOf, pairsOf, differingTask, differingPosition};
 ghost use Rattle.model.specs.Question.{relationNumber};
 
 // The kinds of records.
@@ -68,7 +68,8 @@ pub enum Found {
     Nothing,
 }
 
-// A refusal, by its word in the table: with the faulty record, or with the pairs that the list should hold.
+// A refusal, by its word in the table: with the faulty record, with the pairs that the list should hold, or with the task and the
+// position at which two recordings differ.
 pub enum Refusal {
     Short,
     Edition,
@@ -83,6 +84,7 @@ pub enum Refusal {
     Event,
     Out,
     Starts,
+    Differ { task: u16, position: u16 },
 }
 
 // The outcome of a check.
@@ -133,6 +135,12 @@ pub enum Answer {
     Refused(Refusal),
 }
 
+// The answer to holding two recordings of one job together: how many pairs their one list has.
+pub enum Joint {
+    Pairs(usize),
+    Refused(Refusal),
+}
+
 // The answer to writing a file.
 pub enum Written {
     Length(usize),
@@ -158,6 +166,7 @@ impl Refusal {
             Refusal::Event => 11,
             Refusal::Out => 12,
             Refusal::Starts => 13,
+            Refusal::Differ { .. } => 14,
         }
     }
 
@@ -179,6 +188,7 @@ impl Refusal {
             Refusal::Event => 0,
             Refusal::Out => 0,
             Refusal::Starts => 0,
+            Refusal::Differ { .. } => 0,
         }
     }
 
@@ -197,6 +207,51 @@ impl Refusal {
             Refusal::Life(_) => 0,
             Refusal::Empty(_) => 0,
             Refusal::Work => 0,
+            Refusal::Event => 0,
+            Refusal::Out => 0,
+            Refusal::Starts => 0,
+            Refusal::Differ { .. } => 0,
+        }
+    }
+
+    // The task at which two recordings differ; 0 for another refusal.
+    pub fn task(self) -> u16
+        ensures { λ r. ⌜ r ≡ differingTask self ⌝ }
+    {
+        match self {
+            Refusal::Differ { task, .. } => task,
+            Refusal::Short => 0,
+            Refusal::Edition => 0,
+            Refusal::Extent => 0,
+            Refusal::Count => 0,
+            Refusal::Kind(_) => 0,
+            Refusal::Name(_) => 0,
+            Refusal::Life(_) => 0,
+            Refusal::Empty(_) => 0,
+            Refusal::Work => 0,
+            Refusal::List(_) => 0,
+            Refusal::Event => 0,
+            Refusal::Out => 0,
+            Refusal::Starts => 0,
+        }
+    }
+
+    // The position in that task; 0 for another refusal.
+    pub fn position(self) -> u16
+        ensures { λ r. ⌜ r ≡ differingPosition self ⌝ }
+    {
+        match self {
+            Refusal::Differ { position, .. } => position,
+            Refusal::Short => 0,
+            Refusal::Edition => 0,
+            Refusal::Extent => 0,
+            Refusal::Count => 0,
+            Refusal::Kind(_) => 0,
+            Refusal::Name(_) => 0,
+            Refusal::Life(_) => 0,
+            Refusal::Empty(_) => 0,
+            Refusal::Work => 0,
+            Refusal::List(_) => 0,
             Refusal::Event => 0,
             Refusal::Out => 0,
             Refusal::Starts => 0,

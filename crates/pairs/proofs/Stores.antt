@@ -3,6 +3,7 @@ use mathlib.Core.Path.{_≡_, refl, sym, ap, _∙_}
 use mathlib.Core.Bool.{true, false}
 use mathlib.Core.List.{List, [], _∷_, _++_}
 use Prim.Native.Nat.{ℕ, _+_, _*_, _≤_, _<_}
+use native.Mathlib.Nat.{mul-le-mul-right}
 use native.Mathlib.Omega.{arith}
 use lib.ListN.{length, drop, length-append}
 use lib.Seq.{sets}
@@ -14,7 +15,7 @@ use Rattle.model.specs.Pairs.{racePair, mark, Entry, entryNumbers, pairAt}
 use Rattle.model.proofs.Listed.{numbers-length}
 use Rattle.model.proofs.Each.{each-more, each-count, each-longer}
 use Rattle.model.proofs.Stores.{sets-append, sets-front}
-use Rattle.pairs.specs.Lent.{Stored, WrittenList}
+use Rattle.pairs.specs.Lent.{Stored, Width, WrittenList}
 use Rattle.pairs.proofs.Race.{pair-hit}
 
 numbers-append : (es fs : List Entry) → entryNumbers (es ++ fs) ≡ entryNumbers es ++ entryNumbers fs
@@ -68,11 +69,16 @@ stored-front : (l : List ℕ) (es : List Entry) (m : List ℕ) (p : ℕ) → 3 *
 stored-front l es m p h s = s .numbers ∙ sets-front l (entryNumbers es) (3 * length es) (numbers-length es) h
 
 -- the entries do not fit, and the list is as it was
-pub refused : (es : List Entry) (l : List ℕ) (n : ℕ) → n ≡ length es → length l < 3 * n → WrittenList es l l false n
-refused es l n e h = record { counted = e; room = sym (lt-leb (3 * length es) (length l) (omega arith)); written = refl }
+pub refused : (width : ℕ) (es : List Entry) (l : List ℕ) (n : ℕ) → n ≡ length es → length l < width * n → WrittenList width es l l false n
+refused width es l n e h = record { counted = e; room = sym (lt-leb (width * length es) (length l) (rw e at h)); written = refl }
+
+-- room for `width` numbers an entry is room for three
+pub enough : (width n k : ℕ) → Width width → width * n ≤ k → 3 * n ≤ k
+enough width n k w h = omega (arith, mul-le-mul-right n (w .0))
 
 -- they fit, and are written
-pub listed : (es : List Entry) (l m : List ℕ) (n p : ℕ) → n ≡ length es → 3 * n ≤ length l → Stored l 0 es m p → WrittenList es l m true n
-listed es l m n p e h s =
-    let r : 3 * length es ≤ length l = omega arith in
-    record { counted = e; room = sym (le-leb (3 * length es) (length l) r); written = stored-front l es m p r s }
+pub listed : (width : ℕ) → Width width → (es : List Entry) (l m : List ℕ) (n p : ℕ) → n ≡ length es → width * n ≤ length l → Stored l 0 es m p
+    → WrittenList width es l m true n
+listed width w es l m n p e h s =
+    let r : width * length es ≤ length l = rw e at h in
+    record { counted = e; room = sym (le-leb (width * length es) (length l) r); written = stored-front l es m p (enough width (length es) (length l) w r) s }

@@ -40,8 +40,12 @@ pub record Stored (old : List ℕ) (at : ℕ) (es : List Entry) (out : List ℕ)
   pub numbers : out ≡ sets old at (entryNumbers es)
   pub next : p ≡ at + 3 * length es
 
--- es are `pairs` entries; where they fit into the list they are written to it, and nothing else of it changes
-pub record WrittenList (es : List Entry) (old out : List ℕ) (fits : Bool) (pairs : ℕ) : Type 0 where
+-- the numbers that an entry is to have room for: its own three, and two more where the caller will widen it in place
+abbrev pub Width : ℕ → Type 0
+Width width = (3 ≤ width) × (width ≤ 5)
+
+-- es are `pairs` entries; where the list has `width` numbers for each they are written to it, and nothing else of it changes
+pub record WrittenList (width : ℕ) (es : List Entry) (old out : List ℕ) (fits : Bool) (pairs : ℕ) : Type 0 where
   pub counted : pairs ≡ length es
-  pub room : fits ≡ leb (3 * length es) (length old)
+  pub room : fits ≡ leb (width * length es) (length old)
   pub written : out ≡ cond fits (entryNumbers es ++ drop (3 * length es) old) old

@@ -12,7 +12,7 @@ ghost use Rattle.model.specs.Reading.{mostCells};
 ghost use Rattle.passes.specs.Lent.{vectorsIn, Fitting, Numbered, Placed};
 ghost use Rattle.events.specs.Chains.{Along};
 ghost use Rattle.pairs.specs.Chains.{Linked, InChain};
-ghost use Rattle.pairs.specs.Lent.{over, rowOf, HowMany, Lent, Stored, WrittenList};
+ghost use Rattle.pairs.specs.Lent.{over, rowOf, HowMany, Lent, Stored, Width, WrittenList};
 use events::CHAINS;
 use model::Counts;
 use model::Event;
@@ -85,7 +85,7 @@ fn race_pair(
 }
 
 // The mark of a pair: 1 where the recorded vectors do not order it, else 0.
-fn mark(
+pub fn mark(
     records: &[u8],
     counts: Counts,
     positions: &[u16],
@@ -343,7 +343,8 @@ pub struct Listed {
     pub pairs: usize,
 }
 
-// Writes the list along an order, with its chains at hand: counts first, so that nothing is written where there is no room.
+// Writes the list along an order, with its chains at hand: counts first, so that nothing is written where there is no room for
+// `width` numbers an entry.
 fn list_chained(
     records: &[u8],
     counts: Counts,
@@ -352,13 +353,14 @@ fn list_chained(
     chain: &[u16; CHAINS],
     safe: &[u16],
     recorded: &[u16],
+    width: usize,
     out: &mut [u16],
 ) -> Listed
-    requires { ⌜ Lent (now records) counts (now positions) (now safe) (now recorded) × Linked (now records) (now order) (counts .cells) (now chain) ⌝ }
-    ensures { λ r. ⌜ WrittenList (over entriesIn (now (records .entry)) counts (now (safe .entry)) (now (recorded .entry)) (now (order .entry))) (now (out .entry)) (now (out .exit)) (r .fits) (r .pairs) ⌝ }
+    requires { ⌜ Lent (now records) counts (now positions) (now safe) (now recorded) × Linked (now records) (now order) (counts .cells) (now chain) × Width width ⌝ }
+    ensures { λ r. ⌜ WrittenList width (over entriesIn (now (records .entry)) counts (now (safe .entry)) (now (recorded .entry)) (now (order .entry))) (now (out .entry)) (now (out .exit)) (r .fits) (r .pairs) ⌝ }
 {
     let pairs = count(records, counts, positions, order, chain, safe);
-    if out.len() < 3 * pairs {
+    if out.len() < width * pairs {
         return Listed { fits: false, pairs };
     }
     list_all(
@@ -384,10 +386,11 @@ fn list_in(
     order: &[u16],
     safe: &[u16],
     recorded: &[u16],
+    width: usize,
     out: &mut [u16],
 ) -> Listed
-    requires { ⌜ Lent (now records) counts (now positions) (now safe) (now recorded) × Along (now records) (now order) ⌝ }
-    ensures { λ r. ⌜ WrittenList (over entriesIn (now (records .entry)) counts (now (safe .entry)) (now (recorded .entry)) (now (order .entry))) (now (out .entry)) (now (out .exit)) (r .fits) (r .pairs) ⌝ }
+    requires { ⌜ Lent (now records) counts (now positions) (now safe) (now recorded) × Along (now records) (now order) × Width width ⌝ }
+    ensures { λ r. ⌜ WrittenList width (over entriesIn (now (records .entry)) counts (now (safe .entry)) (now (recorded .entry)) (now (order .entry))) (now (out .entry)) (now (out .exit)) (r .fits) (r .pairs) ⌝ }
 {
     let chain = events::gather_in(records, order, READ, WRITE, counts.cells);
     list_chained(
@@ -398,25 +401,37 @@ fn list_in(
         &chain,
         safe,
         recorded,
+        width,
         out,
     )
 }
 
-// Writes the list of the race pairs in task order, or leaves `out` as it was where they do not fit.
+// Writes the list of the race pairs in task order, three numbers an entry, or leaves `out` as it was where it has no room for
+// `width` numbers an entry: a caller that will widen each entry in place asks for more than three.
 pub fn list(
     records: &[u8],
     counts: Counts,
     positions: &[u16],
     safe: &[u16],
     recorded: &[u16],
+    width: usize,
     out: &mut [u16],
 ) -> Listed
-    requires { ⌜ Lent (now records) counts (now positions) (now safe) (now recorded) ⌝ }
-    ensures { λ r. ⌜ WrittenList (over entries (now (records .entry)) counts (now (safe .entry)) (now (recorded .entry))) (now (out .entry)) (now (out .exit)) (r .fits) (r .pairs) ⌝ }
+    requires { ⌜ Lent (now records) counts (now positions) (now safe) (now recorded) × Width width ⌝ }
+    ensures { λ r. ⌜ WrittenList width (over entries (now (records .entry)) counts (now (safe .entry)) (now (recorded .entry))) (now (out .entry)) (now (out .exit)) (r .fits) (r .pairs) ⌝ }
 {
     let order = events::task_order(records, counts.tasks);
     let n = records.len() / 4;
-    list_in(records, counts, positions, &order[..n], safe, recorded, out)
+    list_in(
+        records,
+        counts,
+        positions,
+        &order[..n],
+        safe,
+        recorded,
+        width,
+        out,
+    )
 }
 
 // How events a and b stand to each other.

@@ -1,20 +1,13 @@
 -- The report of an answer, from record bytes, the number of tasks, and the numbers of a list.
 -- Assumes nothing.
-use Prim.Native.Nat.{ℕ, _+_, _*_, _/_, _≤_}
-use mathlib.Core.Bool.{cond}
+use Prim.Native.Nat.{ℕ, _*_, _/_, _≤_}
 use mathlib.Core.List.{List, _++_}
-use lib.Dec.{leb}
 use lib.ListN.{length}
 use Rattle.model.specs.declared.Reading.{Reading}
 use Rattle.model.specs.declared.Analysis.{Analysis}
 use Rattle.model.specs.Numbers.{each}
 use Rattle.model.specs.Report.{resultLine, refusalLine}
 use Rattle.printing.specs.Entries.{nthLine}
-use Rattle.model.specs.Reading.{mostEvents}
-
--- N × N + 1, where N is in its range
-unfoldable pub budgetIn : List ℕ → ℕ
-budgetIn s = cond (leb (length s / 4) mostEvents) (length s / 4 * (length s / 4) + 1) 0
 
 -- the tasks of a file that reading accepts
 abbrev pub tasksIn : Reading → ℕ

@@ -2,25 +2,12 @@
 ghost use mathlib.Core.Path.{_≡_};
 ghost use Rattle.model.specs.Reading.{readingOf};
 ghost use Rattle.printing.specs.Output.{Put};
-ghost use Rattle.printing.specs.Answer.{budgetIn, tasksIn, Holds, answerText};
+ghost use Rattle.printing.specs.Answer.{tasksIn, Holds, answerText};
 use crate::entries::put_entries;
 use crate::lines::put_refusal;
 use crate::lines::put_result;
 use model::Analysis;
-use model::MOST_EVENTS;
 use model::Reading;
-
-// N × N + 1: enough for the passes to settle.
-pub fn budget_of(records: &[u8]) -> u32
-    ensures { λ r. ⌜ r ≡ budgetIn (now (records .entry)) ⌝ }
-{
-    let n = records.len() / 4;
-    if n <= MOST_EVENTS {
-        let m = n as u32;
-        return m * m + 1;
-    }
-    0
-}
 
 pub fn tasks_of(file: &[u8]) -> u16
     ensures { λ r. ⌜ r ≡ tasksIn (readingOf (now (file .entry))) ⌝ }

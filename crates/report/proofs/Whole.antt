@@ -9,20 +9,22 @@ use Rattle.model.specs.declared.Check.{Check}
 use Rattle.model.specs.declared.Refusal.{Refusal}
 use Rattle.model.specs.declared.Analysis.{Analysis}
 use Rattle.model.specs.Recording.{size, tasks}
-use Rattle.model.specs.File.{trailerOf, recordBytes, recordingOf}
-use Rattle.model.specs.Reading.{fileCheck, readingOf, recordsOf, mostEvents}
-use Rattle.model.specs.Passes.{run}
+use Rattle.model.specs.File.{trailerOf, recordBytes, levelBytes, recordingOf}
+use Rattle.model.specs.Reading.{fileCheck, readingOf, recordsOf}
+use Rattle.model.specs.Passes.{run, budgetOf}
 use Rattle.model.specs.Pairs.{listed, entryNumbers}
 use Rattle.model.specs.Analysing.{workCheck, analysisCheck, analysisOf, workAfterAnalysing, listAfterAnalysing}
-use Rattle.model.proofs.Tests.{le-leb, lt-ltb, le-ltb}
+use Rattle.model.proofs.Tests.{lt-ltb, le-ltb}
 use Rattle.model.proofs.Listed.{numbers-length}
 use Rattle.model.proofs.Uncut.{analysis-passed}
-use Rattle.model.proofs.Files.{sound, events-length, size-records}
+use Rattle.model.proofs.Files.{events-length}
 use Rattle.model.specs.Text.{bytes}
 use Rattle.model.specs.Report.{laid, filling}
 use Rattle.printing.specs.Output.{Put}
-use Rattle.model.specs.Report.{resultLine, resultText, budgetOf, reportBy, mostBytes, isLong, reportOf, workAfterReporting, listAfterReporting}
-use Rattle.printing.specs.Answer.{budgetIn, tasksIn, Holds, answerText}
+use Rattle.model.specs.Report.{resultLine, resultText, reportBy, mostBytes, isLong, reportOf, workAfterReporting, listAfterReporting}
+use Rattle.work.specs.Lent.{budgetIn}
+use Rattle.work.proofs.Accepted.{the-budget}
+use Rattle.printing.specs.Answer.{tasksIn, Holds, answerText}
 use Rattle.printing.proofs.Putting.{put-laid}
 use Rattle.printing.proofs.Listing.{each-entry}
 
@@ -41,18 +43,12 @@ module _ (f : List ℕ) where
   unfolding readingOf recordingOf
   the-tasks q = rw q
 
-  the-budget : fileCheck f ≡ Check.Passed → budgetIn (recordsOf f) ≡ budgetOf (recordingOf f)
-  unfolding budgetIn
-  the-budget q =
-      let s = sound f q in
-      let few : size (recordingOf f) ≤ mostEvents = omega (arith, size-records f s, s .range .few-records) in
-      rw (the-events q, le-leb (size (recordingOf f)) mostEvents few)
-
-  -- ---- the budget of a refused file does not matter
+  -- ---- the budget of an accepted file is N × N + 1, and that of a refused file does not matter
 
   alike : {A : Type 0} (g : ℕ → A) (c : Check) → fileCheck f ≡ c → ((r : Refusal) → fileCheck f ≡ Check.Failed r → g (budgetIn (recordsOf f)) ≡ g (budgetOf (recordingOf f)))
       → g (budgetIn (recordsOf f)) ≡ g (budgetOf (recordingOf f))
-  alike g Check.Passed q h = ap g (the-budget q)
+  unfolding readingOf
+  alike g Check.Passed q h = ap g (the-budget f (trailerOf f) (rw q) (recordsOf f) (the-records q) (levelBytes f (trailerOf f)) refl)
   alike g (Check.Failed r) q h = h r q
 
   pub same-answer : (work list : List ℕ) → analysisOf f (budgetIn (recordsOf f)) work list ≡ analysisOf f (budgetOf (recordingOf f)) work list

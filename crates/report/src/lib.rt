@@ -16,7 +16,7 @@ pub fn report(file: &[u8], work: &mut [u16], list: &mut [u16], out: &mut [u8]) -
         return printing::output::put_text(out, 0, b"too long\n");
     }
     let records = recording::records(file);
-    let budget = printing::answer::budget_of(records);
+    let budget = work::budget_of(records);
     let tasks = printing::answer::tasks_of(file);
     let found = analysis::analyse(file, budget, work, list);
     printing::answer::put_answer(out, records, tasks, found, list)

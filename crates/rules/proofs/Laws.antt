@@ -2,8 +2,7 @@
 use mathlib.Core.Path.{_≡_, refl, sym, _∙_}
 use mathlib.Core.Bool.{Bool, true, false, not}
 use mathlib.Core.List.{List, [], _∷_, _++_}
-use Prim.Native.Nat.{ℕ, zero, suc, _+_, _*_, _-_, _≤_, _<_}
-use native.Mathlib.Nat.{add-zero, add-suc}
+use Prim.Native.Nat.{ℕ, suc, _+_, _-_, _*_, _≤_, _<_}
 use native.Mathlib.Numerals.{add-one}
 use native.Mathlib.Omega.{arith}
 use borrow.Author.Tests.{not-true, not-false}
@@ -17,6 +16,7 @@ use Rattle.model.specs.Refusals.{andThen}
 use Rattle.model.specs.Recording.{Recording, noEvent, event, recordCheck, firstFault, eventIn}
 use Rattle.model.specs.File.{eventsOf}
 use Rattle.model.proofs.Tests.{cases, tests, lt-ltb}
+use Rattle.model.proofs.Checks.{none-yet, the-first}
 use Rattle.model.proofs.Files.{events-length}
 
 -- a test of the code, negated there, and what it says of the definition
@@ -34,25 +34,23 @@ before-length s n h = let l = events-length s in length-take-le n (eventsOf s) (
 pub before-next : (s : List ℕ) (n : ℕ) (v : Event) → 4 * n + 3 < length s → v ≡ eventIn (eventsOf s) n → take (n + 1) (eventsOf s) ≡ take n (eventsOf s) ++ v ∷ []
 before-next s n v h q = let l = events-length s in rw (add-one n, q) (take-suc (eventsOf s) n noEvent (omega arith))
 
-fault-suc : (E : Recording) (n : ℕ) → firstFault E (suc n) ≡ andThen (firstFault E n) λ _. recordCheck (E .counts) (E .levels) (take n (E .events)) (event E n)
-unfolding firstFault
-fault-suc E n = refl
-
--- a fault found stays the first
-fault-stays : (E : Recording) (m d : ℕ) (x : Refusal) → Check.Failed x ≡ firstFault E m → Check.Failed x ≡ firstFault E (m + d)
-fault-stays E m zero x p = rw add-zero p
-fault-stays E m (suc d) x p = rw (add-suc, fault-suc, ← fault-stays E m d x p)
-
 -- the check r of record i, where none before it is faulty
 module _ (E : Recording) (i : ℕ) (v : Event) (r : Check) (p : Check.Passed ≡ firstFault E i) (q : v ≡ event E i) (s : r ≡ recordCheck (E .counts) (E .levels) (take i (E .events)) v) where
-  fault-at : r ≡ firstFault E (suc i)
-  fault-at = rw (fault-suc, ← p, ← q) s
+  abbrev step : ℕ → Check
+  step n = recordCheck (E .counts) (E .levels) (take n (E .events)) (event E n)
+
+  up : (n : ℕ) → firstFault E (suc n) ≡ andThen (firstFault E n) λ _. step n
+  unfolding firstFault
+  up n = refl
+
+  here : r ≡ step i
+  here = rw (← q) s
 
   pub fault-none : r ≡ Check.Passed → Check.Passed ≡ firstFault E (i + 1)
-  fault-none e = rw add-one (sym e ∙ fault-at)
+  fault-none = none-yet (firstFault E) step up i r p here
 
   pub fault-first : (x : Refusal) → r ≡ Check.Failed x → (n : ℕ) → i < n → Check.Failed x ≡ firstFault E n
-  fault-first x e n l = let k : n ≡ suc i + (n - suc i) = omega arith in rw k (fault-stays E (suc i) (n - suc i) x (sym e ∙ fault-at))
+  fault-first = the-first (firstFault E) step up i r p here
 
 -- ---- the rule on waits, for w earlier waits, s earlier signals and a start count of n
 

@@ -6,9 +6,11 @@ use borrow.Author.Needs.{needs}
 use borrow.Author.Tests.{not-true, not-false}
 use Rattle.model.specs.declared.Refusal.{Refusal}
 use Rattle.model.specs.declared.Analysis.{Analysis}
-use Rattle.analysis.specs.Lent.{Ready, Roomy, Analysed}
-use Rattle.analysis.proofs.Accepted.{inside, levels-inside, ready}
-use Rattle.analysis.proofs.Cases.{roomy, short-work, ended}
+use Rattle.work.specs.Lent.{Ready, Roomy}
+use Rattle.work.proofs.Parts.{roomy}
+use Rattle.work.proofs.Accepted.{inside, levels-inside, ready}
+use Rattle.analysis.specs.Lent.{Analysed}
+use Rattle.analysis.proofs.Cases.{short-work, ended}
 use Rattle.analysis.proofs.analyse_read.Statement.{statement}
 use Rattle.analysis.proofs.analyse_read.Tie as tie
 
@@ -29,9 +31,7 @@ module _ (t : tie.Else1) where
   l = t .before .before .before
 
   room : Roomy (r l .records-of .result .now) (s l .args .trailer .counts) (s l .args .work .now)
-  room =
-      roomy (s l .args .file .now) (s l .args .trailer) (s l .pre) _ (r l .records-of .ensures) _ (l .levels-of .ensures) 0 (s l .args .work .now)
-      (sym (t .before .work-fits .ensures) ∙ not-false _ (t .if1 .left))
+  room = roomy _ (s l .args .trailer .counts) (s l .args .work .now) (sym (t .before .work-fits .ensures) ∙ not-false _ (t .if1 .left))
 
 returns : tie.Need-returns
 returns c =
@@ -44,7 +44,7 @@ list-pairs-requires c κs =
     let k = c .before .before .before .before .before in
     let p = k .before .before .before in
     let t = p .before in
-    (all-ready (l t), omega (arith, room t, k .fill .kept .1 .1 .1 .1 .1 .0), p .positions .ensures)
+    (all-ready (l t), omega (arith, room t, k .fill .kept .1 .1 .1 .1 .1 .0), p .positions .ensures, (omega arith, omega arith))
 
 -- the answer, by whether the list had room
 module _ (c : tie.After-list-pairs) where
@@ -60,7 +60,7 @@ module _ (c : tie.After-list-pairs) where
   the-end : (y : Bool) → c .list-pairs .result .fits ≡ y
       → Analysed (s q .args .file .now) (s q .args .budget) (s q .args .work .now) (s q .args .list .now)
       (cond y (Analysis.Done (k .fill .result .passes) (k .fill .result .settled) (c .list-pairs .result .pairs)) (Analysis.Refused (Refusal.List (c .list-pairs .result .pairs))))
-      (k .fill .last .1 .1 .1 .1 .1 .0) (c .list-pairs .last .1 .1 .1 .1 .0)
+      (k .fill .last .1 .1 .1 .1 .1 .0) (c .list-pairs .last .1 .1 .1 .1 .1 .0)
   the-end =
       ended (s q .args .file .now) (s q .args .trailer) (s q .pre) _ (r q .records-of .ensures) _ (q .levels-of .ensures) (s q .args .budget) (s q .args .work .now)
       (sym (t .before .work-fits .ensures) ∙ not-false _ (t .if1 .left)) _ (k .fill .ensures .1) _ _ _ _ _ (k .fill .ensures .0 .0) (k .fill .ensures .0 .1) (c .list-pairs .ensures)

@@ -8,9 +8,10 @@ use borrow.Author.Tests.{not-true, not-false}
 use Rattle.model.specs.File.{recordingBy}
 use Rattle.model.specs.Analysing.{workFits}
 use Rattle.model.specs.Question.{twoEvents}
-use Rattle.analysis.specs.Lent.{Ready, Roomy}
-use Rattle.analysis.proofs.Accepted.{inside, levels-inside, ready}
-use Rattle.analysis.proofs.Cases.{roomy, two-numbered, no-events, no-work, answered}
+use Rattle.work.specs.Lent.{Ready, Roomy}
+use Rattle.work.proofs.Parts.{roomy}
+use Rattle.work.proofs.Accepted.{inside, levels-inside, ready}
+use Rattle.analysis.proofs.Cases.{two-numbered, no-events, no-work, answered}
 use Rattle.analysis.proofs.ask_read.Statement.{statement}
 use Rattle.analysis.proofs.ask_read.Tie as tie
 
@@ -45,7 +46,7 @@ module _ (u : tie.Else2) where
   fits = sym (u .before .work-fits .ensures) ∙ not-false _ (u .if2 .left)
 
   room : Roomy (r q .records-of .result .now) (s q .args .trailer .counts) (s q .args .work .now)
-  room = roomy (s q .args .file .now) (s q .args .trailer) (s q .pre) _ (r q .records-of .ensures) _ (q .levels-of .ensures) 0 (s q .args .work .now) fits
+  room = roomy _ (s q .args .trailer .counts) (s q .args .work .now) fits
 
 returns : tie.Need-returns
 returns c =

@@ -6,8 +6,9 @@ use mathlib.Core.Path.{_≡_}
 use mathlib.Core.List.{List, [], _∷_, _++_}
 use lib.ListN.{replicate}
 use Rattle.model.specs.File.{recordingOf}
+use Rattle.model.specs.Passes.{budgetOf}
 use Rattle.model.specs.Text.{bytes, decimal}
-use Rattle.model.specs.Report.{budgetOf, resultText, reportOf, workAfterReporting, listAfterReporting, laid, filling}
+use Rattle.model.specs.Report.{resultText, reportOf, workAfterReporting, listAfterReporting, laid, filling}
 use Rattle.model.specs.Rows.Starred.{of, W, P, file, A, B, G, I, J}
 use Rattle.model.specs.Rows.Table.{lent}
 

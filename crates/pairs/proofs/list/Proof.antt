@@ -18,21 +18,21 @@ use Rattle.pairs.proofs.list.Tie as tie
 task-order-requires : tie.Need-task-order-requires
 task-order-requires c κs =
     let s = c .before .before .before .before .before in
-    let r = s .pre .placed .records in
-    (omega (arith, r .whole, r .few), s .pre .tasks, r .named)
+    let r = s .pre .0 .placed .records in
+    (omega (arith, r .whole, r .few), s .pre .0 .tasks, r .named)
 
 -- as many places as records
 all-places : tie.Need-slice-aggregate-list-in
 all-places c =
     let s = c .before .before .before .before .before .before .before in
     let l = eventsOf (s .args .records .now) in
-    sym (ap length (c .before .task-order .ensures) ∙ order-length l (s .args .counts .tasks) (s .pre .placed .records .named) ∙ events-length (s .args .records .now))
+    sym (ap length (c .before .task-order .ensures) ∙ order-length l (s .args .counts .tasks) (s .pre .0 .placed .records .named) ∙ events-length (s .args .records .now))
 
 list-in-requires : tie.Need-list-in-requires
 list-in-requires c κs =
     let s = c .before .before .before .before .before .before .before .before in
-    let r = s .pre .placed .records in
-    (s .pre, subst (Along (s .args .records .now)) (sym (c .before .before .task-order .ensures)) (task-order-along _ _ (r .few) (r .named)))
+    let r = s .pre .0 .placed .records in
+    (s .pre .0, subst (Along (s .args .records .now)) (sym (c .before .before .task-order .ensures)) (task-order-along _ _ (r .few) (r .named)), s .pre .1)
 
 returns : tie.Need-returns
 unfolding entries
@@ -41,7 +41,7 @@ returns c =
     let f = c .before .before .list-in in
     subst
     (λ (order : List ℕ).
-    WrittenList (over entriesIn (s .args .records .now) (s .args .counts) (s .args .safe .now) (s .args .recorded .now) order) (s .args .out .now) (f .last .1 .1 .1 .1 .1 .1 .0) (f .result .fits) (f .result .pairs))
+    WrittenList (s .args .width) (over entriesIn (s .args .records .now) (s .args .counts) (s .args .safe .now) (s .args .recorded .now) order) (s .args .out .now) (f .last .1 .1 .1 .1 .1 .1 .1 .0) (f .result .fits) (f .result .pairs))
     (c .before .before .before .before .before .task-order .ensures) (f .ensures)
 
 pub list-spec : {M : Type 1} → statement M

@@ -12,7 +12,7 @@ gather-in-requires c κs =
 list-chained-requires : tie.Need-list-chained-requires
 list-chained-requires c κs =
     let s = c .before .before .before .before .before .before .before .before .before in
-    (s .pre .0, gathered _ _ _ _ (s .pre .1) (c .before .before .gather-in .ensures))
+    (s .pre .0, gathered _ _ _ _ (s .pre .1) (c .before .before .gather-in .ensures), s .pre .2)
 
 pub list-in-spec : {M : Type 1} → statement M
 list-in-spec =

@@ -1,0 +1,134 @@
+// The lent work memory of a recording: its size, what fills it (the safe vectors of a run, then the recorded ones), the budget of
+// a run that settles, and what is read off the memory once it is filled. A crate of its own, since more than one interface crate
+// fills such a memory, and these functions require what those have shown.
+ghost use mathlib.Core.Path.{_≡_};
+ghost use mathlib.Core.List.{[]};
+ghost use Prim.Native.Nat.{_≤_};
+ghost use Rattle.model.specs.File.{recordingBy, eventsOf};
+ghost use Rattle.model.specs.Passes.{passesMade, isSettled};
+ghost use Rattle.model.specs.Pairs.{entries};
+ghost use Rattle.model.specs.Analysing.{workFits, filled};
+ghost use Rattle.model.specs.Question.{relationBy};
+ghost use Rattle.passes.specs.Lent.{Numbered};
+ghost use Rattle.pairs.specs.Lent.{Width, WrittenList};
+ghost use Rattle.events.specs.Kept.{Positions};
+ghost use Rattle.work.specs.Lent.{Ready, numbers, Roomy, inWork, budgetIn};
+use model::Counts;
+use model::MOST_EVENTS;
+use model::Relation;
+use pairs::Listed;
+
+// N × N + 1: enough for the passes to settle.
+pub fn budget_of(records: &[u8]) -> u32
+    ensures { λ r. ⌜ r ≡ budgetIn (now (records .entry)) ⌝ }
+{
+    let n = records.len() / 4;
+    if n <= MOST_EVENTS {
+        let m = n as u32;
+        return m * m + 1;
+    }
+    0
+}
+
+// How many numbers the vectors of these records have: N × T.
+pub fn numbers(records: &[u8], counts: Counts) -> usize
+    requires { ⌜ Ready (now records) counts ⌝ }
+    ensures { λ r. ⌜ (r ≡ numbers (now (records .entry)) counts) × (r ≤ 16384) ⌝ }
+{
+    let tasks = counts.tasks as usize;
+    records.len() / 4 * tasks
+}
+
+// Whether the work numbers have room for the safe and the recorded vectors.
+pub fn work_fits(records: &[u8], counts: Counts, work: &[u16]) -> bool
+    requires { ⌜ Ready (now records) counts ⌝ }
+    ensures { λ r. ⌜ r ≡ workFits (recordingBy (now (records .entry)) counts []) (now (work .entry)) ⌝ }
+{
+    2 * numbers(records, counts) <= work.len()
+}
+
+// Fills the work numbers: the safe vectors of a run with this budget, then the recorded vectors.
+pub fn fill(
+    records: &[u8],
+    counts: Counts,
+    levels: &[u8],
+    positions: &[u16; MOST_EVENTS],
+    budget: u32,
+    work: &mut [u16],
+) -> passes::Outcome
+    requires { ⌜ Ready (now records) counts × Roomy (now records) counts (now work) × Positions (eventsOf (now records)) (now positions) ⌝ }
+    ensures { λ r. ⌜ (r .passes ≡ passesMade (recordingBy (now (records .entry)) counts (now (levels .entry))) budget) × (r .settled ≡ isSettled (recordingBy (now (records .entry)) counts (now (levels .entry))) budget) ⌝ }
+    ensures { λ _. ⌜ now (work .exit) ≡ filled (recordingBy (now (records .entry)) counts (now (levels .entry))) budget (now (work .entry)) ⌝ }
+{
+    let half = numbers(records, counts);
+    let before = events::before_each(records);
+    let made = passes::run(
+        records,
+        counts,
+        levels,
+        positions,
+        &before,
+        budget,
+        &mut work[..half],
+    );
+    passes::record(
+        records,
+        counts,
+        levels,
+        positions,
+        &before,
+        &mut work[half..],
+    );
+    made
+}
+
+// Lists the race pairs by the vectors in the work numbers, where the list has room for `width` numbers an entry.
+pub fn list_pairs(
+    records: &[u8],
+    counts: Counts,
+    positions: &[u16; MOST_EVENTS],
+    work: &[u16],
+    width: usize,
+    list: &mut [u16],
+) -> Listed
+    requires { ⌜ Ready (now records) counts × Roomy (now records) counts (now work) × Positions (eventsOf (now records)) (now positions) × Width width ⌝ }
+    ensures { λ r. ⌜ WrittenList width (inWork entries (now (records .entry)) counts (now (work .entry))) (now (list .entry)) (now (list .exit)) (r .fits) (r .pairs) ⌝ }
+{
+    let half = numbers(records, counts);
+    let end = 2 * half;
+    pairs::list(
+        records,
+        counts,
+        positions,
+        &work[..half],
+        &work[half..end],
+        width,
+        list,
+    )
+}
+
+// How events a and b stand to each other by the vectors in the work numbers.
+pub fn relate(
+    records: &[u8],
+    counts: Counts,
+    positions: &[u16; MOST_EVENTS],
+    work: &[u16],
+    a: usize,
+    b: usize,
+) -> Relation
+    requires { ⌜ Ready (now records) counts × Roomy (now records) counts (now work) × Positions (eventsOf (now records)) (now positions) ⌝ }
+    requires { ⌜ Numbered (now records) a × Numbered (now records) b ⌝ }
+    ensures { λ r. ⌜ r ≡ inWork relationBy (now (records .entry)) counts (now (work .entry)) a b ⌝ }
+{
+    let half = numbers(records, counts);
+    let end = 2 * half;
+    pairs::relation(
+        records,
+        counts,
+        positions,
+        &work[..half],
+        &work[half..end],
+        a,
+        b,
+    )
+}
