@@ -4,8 +4,9 @@ use Prim.Native.Nat.{ℕ, _+_, _*_, _≤_}
 use mathlib.Core.Path.{_≡_, refl}
 use native.Mathlib.Nat.{le-trans, le-refl, lt-of-lt-of-le}
 use native.Mathlib.Omega.{arith}
+use Rattle.second.specs.declared.Held.{Held}
 use Rattle.second.specs.declared.scan.Trailer.{Trailer}
-use Rattle.second.specs.Answers.{Refused, TrailerOf, TrailerFor}
+use Rattle.second.specs.Answers.{Refused, TrailerOf, TrailerFor, Misfit, HeldTogether}
 
 -- a trailer whose records and start bytes meet the length
 pub file-trailer : {start n starts size : ℕ} {h : Trailer} → TrailerOf start n starts h → start + 4 * n + starts + 16 ≡ size → TrailerFor size h
@@ -34,4 +35,15 @@ wider r p q =
       fault = λ l m. lt-of-lt-of-le (r .fault l m) q;
       early = r .early;
       late = r .late;
+    }
+
+-- two recordings that are refused before any pass: no list was asked for
+pub misfit : {slots : ℕ} {o : Held} → Misfit o → (o .refusal ≡ 0 → ⊥) → HeldTogether slots o
+misfit m some =
+    record {
+      refusal = m .refusal;
+      late = λ p. m .late (omega arith);
+      place = m .place;
+      fits = λ e. absurd (some e);
+      full = λ e. absurd (omega (arith, m .late (omega arith)));
     }

@@ -10,6 +10,7 @@ use Rattle.second.specs.declared.Findings.{Findings}
 use Rattle.second.specs.declared.Reply.{Reply}
 use Rattle.second.specs.declared.Sent.{Sent}
 use Rattle.second.specs.declared.Look.{Look}
+use Rattle.second.specs.declared.Held.{Held}
 use Rattle.second.specs.declared.scan.Trailer.{Trailer}
 use Rattle.second.specs.declared.scan.Fault.{Fault}
 
@@ -160,3 +161,32 @@ pub record Looked (n : ℕ) (l : Look) : Type 0 where
   pub least : l .found ≡ true → 1 ≤ l .read
   pub hit : l .found ≡ true → l .«record» + l .read ≡ n
   pub none : l .found ≡ false → (l .«record» ≡ 0) × (l .read ≡ n)
+
+-- where two recordings differ: 14 has a task and a position, 0 and 0 for counts and start counts; other refusals have 0 and 0
+pub record Place (number t p : ℕ) : Type 0 where
+  pub task : t ≤ 15
+  pub position : p ≤ 1024
+  pub counts : p ≡ 0 → t ≡ 0
+  pub other : number < 14 → p ≡ 0
+
+-- the refusal of two recordings before any pass, or 0 for none
+pub record Misfit (o : Held) : Type 0 where
+  pub refusal : Refused 14 1024 (o .refusal) (o .«record»)
+  pub late : 9 < o .refusal → o .refusal ≡ 14
+  pub place : Place (o .refusal) (o .task) (o .position)
+  pub pairs : o .pairs ≡ 0
+
+-- holding two recordings together, with so many numbers for the list
+pub record HeldTogether (slots : ℕ) (o : Held) : Type 0 where
+  pub refusal : Refused 14 1024 (o .refusal) (o .«record»)
+  pub late : 10 < o .refusal → o .refusal ≡ 14
+  pub place : Place (o .refusal) (o .task) (o .position)
+  pub fits : o .refusal ≡ 0 → 5 * o .pairs ≤ slots
+  pub full : o .refusal ≡ 10 → slots < 5 * o .pairs
+
+-- refusals other than 10 have no pair, and leave the lent numbers as they came
+pub record Unheld (o : Held) (v w l v′ w′ l′ : List ℕ) : Type 0 where
+  pub pairs : o .pairs ≡ 0
+  pub first : v′ ≡ v
+  pub second : w′ ≡ w
+  pub list : l′ ≡ l

@@ -1,8 +1,8 @@
 // A second analyser, for tests: what documents 01 and 02 ask, by another method. One reading fills
 // arrays of state, a wait's signal is found by counting, the k-th least and the list are sorted by
-// counting, and the look for a last event goes forward. It is proved safe, with the range of each number
-// that it answers and what a refusal leaves; that the numbers are right is not proved: the trial
-// compares them with the library's.
+// counting, the look for a last event goes forward, and so does the look for an event of one recording
+// in another. It is proved safe, with the range of each number that it answers and what a refusal leaves;
+// that the numbers are right is not proved: the trial compares them with the library's.
 ghost use mathlib.Core.Path.{_≡_};
 ghost use Prim.Native.Nat.{_+_, _/_, _≤_, _<_};
 ghost use lib.ListN.{length};
@@ -20,8 +20,11 @@ ghost use Rattle.second.specs.Answers.{
   Written,
   Unsent,
   Looked,
+  HeldTogether,
+  Unheld,
 };
 
+mod both;
 mod listing;
 mod memory;
 mod scan;
@@ -73,6 +76,16 @@ pub struct Look {
     pub found: bool,
     pub record: usize,
     pub read: usize,
+}
+
+// What holding two recordings together gives: a refusal's number and record, the task and position at
+// which they differ, and the pairs needed; or 0, and the pairs.
+pub struct Held {
+    pub refusal: u16,
+    pub record: u16,
+    pub task: u16,
+    pub position: u16,
+    pub pairs: u32,
 }
 
 // Reads a file, and leaves its events, four numbers each, their links, and the start counts.
@@ -146,7 +159,7 @@ fn analyse_events(
 {
     let run = vectors::run(events, links, starts, n, budget, safe);
     vectors::replay(events, links, n, recorded);
-    let pairs = listing::list_pairs(events, n, safe, recorded, list);
+    let pairs = listing::list_pairs(events, n, safe, recorded, 3, list);
     Findings {
         refusal: if slots / 3 < pairs as usize { 10 } else { 0 },
         record: 0,
@@ -420,4 +433,40 @@ pub fn last_event(part: &[u8], task: u16) -> Look
         look = look_at(part, task, e, look);
     }
     look
+}
+
+// Holds two recordings of one job together: their work numbers as after analysing each until it settles,
+// and their one list. Refusals other than 10 leave what was lent as it came, and 10 leaves the list so.
+pub fn together(
+    first: &[u8],
+    second: &[u8],
+    first_work: &mut [u16],
+    second_work: &mut [u16],
+    list: &mut [u16],
+) -> Held
+    ensures { λ o. ⌜ HeldTogether (length (now (list .entry))) o ⌝ }
+    ensures { λ o. ⌜ (o .refusal ≡ 10 → now (list .exit) ≡ now (list .entry)) ⌝ }
+    ensures { λ o. ⌜ (1 ≤ o .refusal → (o .refusal ≡ 10 → ⊥) → Unheld o (now («first_work» .entry)) (now («second_work» .entry)) (now (list .entry)) (now («first_work» .exit)) (now («second_work» .exit)) (now (list .exit))) ⌝ }
+{
+    let mut one = [0u16; 4096];
+    let mut links = [0u16; 4096];
+    let mut starts = [0u16; 64];
+    let mut other = [0u16; 4096];
+    let mut other_links = [0u16; 4096];
+    let mut other_starts = [0u16; 64];
+    let r = load(first, &mut one, &mut links, &mut starts);
+    let s = load(second, &mut other, &mut other_links, &mut other_starts);
+    both::hold(
+        r,
+        s,
+        &one,
+        &links,
+        &starts,
+        &other,
+        &other_links,
+        &other_starts,
+        first_work,
+        second_work,
+        list,
+    )
 }

@@ -85,6 +85,11 @@ pub(crate) fn place(e: u16, t: u16) -> usize {
     e as usize * 16 + t as usize
 }
 
+// Where number i of a row lies, in slices of so many numbers a row.
+pub(crate) fn spot(row: u32, width: u16, i: u16) -> usize {
+    row as usize * width as usize + i as usize
+}
+
 pub(crate) fn get(s: &[u16], e: u16, f: u16) -> u16 {
     at(s, field(e, f))
 }

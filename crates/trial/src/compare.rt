@@ -14,7 +14,7 @@ use model::Item;
 use model::Reading;
 use model::Refusal;
 
-const MARK: u16 = 43981;
+pub(crate) const MARK: u16 = 43981;
 
 pub(crate) fn same_refusal(r: Refusal, number: u16, record: u16) -> bool {
     r.number() as u16 == number && r.record() == record as usize
@@ -389,7 +389,7 @@ pub(crate) fn one_more(x: usize) -> usize {
 }
 
 // The numbers of a list are the digits of a text.
-fn same_digits(list: &[u16], text: &[u8]) -> bool {
+pub(crate) fn same_digits(list: &[u16], text: &[u8]) -> bool {
     for i in 0..text.len() {
         if number(list, i) != digit(text, i) as u16 {
             return false;

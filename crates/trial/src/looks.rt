@@ -18,7 +18,7 @@ use second::Look;
 // ---- comparisons
 
 // The bytes from one place to another; none where there is no such part.
-fn part_of(s: &[u8], from: usize, to: usize) -> &[u8] {
+pub(crate) fn part_of(s: &[u8], from: usize, to: usize) -> &[u8] {
     if s.len() < to {
         return &s[0..0];
     }

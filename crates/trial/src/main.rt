@@ -1,17 +1,20 @@
-// The trial: worked recordings, edge files, jobs recorded in several orders, looks for last events and
-// generated recordings, with the library and the second analyser compared in everything. Each group
-// prints how many comparisons it made, and each file at which the two differ. Groups are of edition 1
-// unless their name says otherwise.
+// The trial: worked recordings, edge files, jobs recorded in several orders, two recordings held together,
+// looks for last events and generated recordings, with the library and the second analyser compared in
+// everything. Each group prints how many comparisons it made, and each file at which the two differ. Groups
+// are of edition 1 unless their name says otherwise.
+mod both;
 mod bytes;
 mod compare;
 mod edges;
 mod generated;
+mod jobs;
 mod lines;
 mod looks;
 mod make;
 mod ordered;
 mod refusals;
 mod tries;
+mod twice;
 mod worked;
 mod writing;
 
@@ -30,6 +33,19 @@ fn small(edition: u16) -> Sizes {
         tasks: 4,
         semaphores: 3,
         cells: 3,
+        edition,
+        all: true,
+    }
+}
+
+// 12 to 27 events of a few tasks, with at most two semaphores and one cell.
+fn busy(edition: u16) -> Sizes {
+    Sizes {
+        least: 12,
+        more: 16,
+        tasks: 6,
+        semaphores: 3,
+        cells: 2,
         edition,
         all: true,
     }
@@ -86,6 +102,23 @@ fn try_by_hand() {
     edges::try_start_trailers();
 }
 
+// Two recordings of one job.
+fn try_two() {
+    twice::try_worked_pairs();
+    twice::try_marks();
+    twice::try_differences();
+    twice::try_counts();
+    jobs::try_jobs(b"two recordings, small", 2051, 2000, busy(1));
+    jobs::try_jobs(b"two recordings, small, edition 2", 2052, 2000, busy(2));
+    jobs::try_jobs(b"two recordings, middling", 2053, 200, middling(1));
+    jobs::try_jobs(b"two recordings, edition 2", 2054, 200, middling(2));
+    jobs::try_jobs(b"two recordings, large", 2055, 4, large(1));
+    jobs::try_jobs(b"two recordings, large, edition 2", 2056, 4, large(2));
+    jobs::try_changed(b"two recordings, changed", 2057, 4000, busy(1));
+    jobs::try_changed(b"two recordings, changed, edition 2", 2058, 4000, busy(2));
+    jobs::try_changed(b"two recordings, middling, changed", 2059, 400, middling(1));
+}
+
 // Looks for the last event of a task.
 fn try_looks() {
     looks::try_parts_of_five();
@@ -126,6 +159,7 @@ fn main() {
     try_by_hand();
     ordered::try_shuffled();
     ordered::try_wide();
+    try_two();
     try_looks();
     try_edition_one();
     try_edition_two();

@@ -259,7 +259,7 @@ pub(crate) fn make(seed: &mut u32, s: Shape, file: &mut [u8]) -> u32 {
 }
 
 // Another byte so many from the end of the file, where there is one.
-fn damage_byte(file: &mut [u8], length: u32, back: u32, value: u8) {
+pub(crate) fn damage_byte(file: &mut [u8], length: u32, back: u32, value: u8) {
     if back < length {
         put_byte(file, (length - 1 - back) as usize, value);
     }

@@ -1,5 +1,6 @@
 // Lists in task order. An event's name is its task and its position. Named so, the list of a job of plain
 // accesses is the same in whatever order the job was recorded.
+use crate::both;
 use crate::bytes::byte;
 use crate::bytes::number;
 use crate::bytes::put_number;
@@ -19,7 +20,7 @@ use model::Analysis;
 // ---- names
 
 // The library's list; how many pairs it has, or would need room for.
-fn listed(file: &[u8], budget: u32, list: &mut [u16]) -> usize {
+pub(crate) fn listed(file: &[u8], budget: u32, list: &mut [u16]) -> usize {
     let mut work = [0u16; 32768];
     match analysis::analyse(file, budget, &mut work, list) {
         Analysis::Done {
@@ -213,7 +214,8 @@ fn same_named(one: &[u8], other: &[u8]) -> bool {
     named_list(other, 1, &mut b) == pairs && same_numbers(&a, &b, pairs as usize * 4)
 }
 
-// The job recorded in an order is accepted, and has the list that it has task by task.
+// The job recorded in an order is accepted, and has the list that it has task by task; and both held
+// together.
 fn try_order(total: u32, job: Job, order: u32) -> u32 {
     let mut first = [0u8; 4200];
     let mut bytes = [0u8; 4200];
@@ -223,8 +225,10 @@ fn try_order(total: u32, job: Job, order: u32) -> u32 {
         return total;
     }
     let file = &bytes[0..length as usize];
-    let same = refused_as(file, 0, 0) && same_named(&first[0..length as usize], file);
-    try_one(count(total, same, file), file, 1, 0)
+    let one = &first[0..length as usize];
+    let same = refused_as(file, 0, 0) && same_named(one, file);
+    let held = both::sized_agrees(one, file, both::slots_needed(one, file), order % 2 * 7);
+    try_one(count(count(total, same, file), held, file), file, 1, 0)
 }
 
 fn try_orders(start: u32, job: Job) -> u32 {
