@@ -1,6 +1,6 @@
 -- What analysing a file and a question about two events answer and leave, case by case.
 -- Assumes nothing.
-use mathlib.Core.Path.{_≡_, refl, sym, ap, _∙_}
+use mathlib.Core.Path.{_≡_, refl, sym, _∙_}
 use mathlib.Core.Bool.{Bool, true, false}
 use mathlib.Core.List.{List, _++_}
 use Prim.Native.Nat.{ℕ, _*_}
@@ -9,14 +9,13 @@ use Rattle.model.specs.declared.Refusal.{Refusal}
 use Rattle.model.specs.declared.Check.{Check}
 use Rattle.model.specs.declared.Analysis.{Analysis}
 use Rattle.model.specs.declared.Answer.{Answer}
-use Rattle.model.specs.declared.Relation.{Relation}
 use Rattle.model.specs.Refusals.{after}
 use Rattle.model.specs.File.{recordingOf}
 use Rattle.model.specs.Reading.{fileCheck}
 use Rattle.model.specs.Passes.{passesMade, isSettled}
 use Rattle.model.specs.Pairs.{listed, entryNumbers}
 use Rattle.model.specs.Analysing.{workFits, filled, workCheck, analysisCheck, analysisBy, analysisOf, workAfterAnalysing, listAfterAnalysing}
-use Rattle.model.specs.Question.{relationOf, twoEvents, questionCheck, answerBy, answerOf, workAfterAsking}
+use Rattle.model.specs.Question.{questionCheck, answerBy, answerOf, workAfterAsking}
 use Rattle.pairs.specs.Lent.{WrittenList}
 use Rattle.analysis.specs.Lent.{Analysed, Asked}
 
@@ -60,25 +59,7 @@ module _ (f : List ℕ) (b : ℕ) (w l : List ℕ) where
           by-analysis Check.Passed Check.Passed work-passed (rw (work-passed, sym (o .room))) _ _ _ (rw (x, y, o .counted)) e (o .written)
 
 module _ (f : List ℕ) (x y b : ℕ) (w : List ℕ) where
-  by-question : (k : Check) → questionCheck f x y w ≡ k → (a : Answer) (w′ : List ℕ) → a ≡ answerBy (recordingOf f) x y b k
+  pub by-question : (k : Check) → questionCheck f x y w ≡ k → (a : Answer) (w′ : List ℕ) → a ≡ answerBy (recordingOf f) x y b k
       → w′ ≡ after k (λ _. filled (recordingOf f) b w) w → Asked f x y b w a w′
   unfolding answerOf workAfterAsking
   by-question k p a w′ q r = record { answer = q ∙ rw p; work = r ∙ rw p }
-
-  pub asked-file : (r : Refusal) → fileCheck f ≡ Check.Failed r → Asked f x y b w (Answer.Refused r) w
-  unfolding questionCheck
-  asked-file r p = by-question (Check.Failed r) (rw p) _ _ refl refl
-
-  module _ (p : fileCheck f ≡ Check.Passed) where
-    pub asked-event : twoEvents (recordingOf f) x y ≡ false → Asked f x y b w (Answer.Refused Refusal.Event) w
-    unfolding questionCheck
-    asked-event h = by-question (Check.Failed Refusal.Event) (rw (p, h)) _ _ refl refl
-
-    pub asked-work : twoEvents (recordingOf f) x y ≡ true → workFits (recordingOf f) w ≡ false → Asked f x y b w (Answer.Refused Refusal.Work) w
-    unfolding questionCheck
-    asked-work h k = by-question (Check.Failed Refusal.Work) (rw (p, h, k)) _ _ refl refl
-
-    pub related : twoEvents (recordingOf f) x y ≡ true → workFits (recordingOf f) w ≡ true → (r : Relation) (w′ : List ℕ) → r ≡ relationOf (recordingOf f) x y b
-        → w′ ≡ filled (recordingOf f) b w → Asked f x y b w (Answer.Related r) w′
-    unfolding questionCheck
-    related h k r w′ e q = by-question Check.Passed (rw (p, h, k)) _ _ (ap (λ (s : Relation). Answer.Related s) e) q

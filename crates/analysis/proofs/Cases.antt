@@ -1,32 +1,32 @@
 -- The cases of an accepted file, as its records and the lent numbers show them.
 -- Assumes nothing.
 use mathlib.Core.Path.{_≡_, refl, sym, ap, ap₂, _∙_}
-use mathlib.Core.Bool.{Bool, true, false, cond, not}
+use mathlib.Core.Bool.{Bool, true, false, cond}
 use mathlib.Core.List.{List}
 use Prim.Native.Nat.{ℕ}
-use lib.Dec.{eqb, ltb}
 use Rattle.model.specs.declared.Trailer.{Trailer}
 use Rattle.model.specs.declared.Refusal.{Refusal}
+use Rattle.model.specs.declared.Check.{Check}
 use Rattle.model.specs.declared.Reading.{Reading}
 use Rattle.model.specs.declared.Analysis.{Analysis}
 use Rattle.model.specs.declared.Answer.{Answer}
 use Rattle.model.specs.declared.Relation.{Relation}
-use Rattle.model.specs.Recording.{Recording, size}
+use Rattle.model.specs.Refusals.{after}
+use Rattle.model.specs.Recording.{Recording}
 use Rattle.model.specs.File.{recordBytes, levelBytes, recordingBy, recordingOf}
 use Rattle.model.specs.Reading.{readingOf}
 use Rattle.model.specs.Passes.{passesMade, isSettled}
 use Rattle.model.specs.Vectors.{Vectors}
 use Rattle.model.specs.Pairs.{entries, listed}
 use Rattle.model.specs.Analysing.{workFits, filled}
-use Rattle.model.specs.Question.{relationBy, relationOf, twoEvents}
-use Rattle.model.proofs.Tests.{all-three, ltb-true}
-use Rattle.passes.specs.Lent.{Numbered}
+use Rattle.model.specs.Question.{relationBy, relationOf, answerBy}
 use Rattle.pairs.specs.Lent.{WrittenList}
 use Rattle.work.specs.Lent.{inWork}
 use Rattle.work.proofs.Accepted.{passed, the-recording}
+use Rattle.work.proofs.Questions.{Checked, question-asked}
 use Rattle.work.proofs.Filled.{safe-vectors, recorded-vectors, listing}
 use Rattle.analysis.specs.Lent.{Analysed, Asked}
-use Rattle.analysis.proofs.Answers.{refused-work, refused-list, finished, asked-event, asked-work, related}
+use Rattle.analysis.proofs.Answers.{refused-work, refused-list, finished, by-question}
 
 module _ (f : List ℕ) (h : Trailer) (q : readingOf f ≡ Reading.Accepted h) (s : List ℕ) (e : s ≡ recordBytes f h) (v : List ℕ) (g : v ≡ levelBytes f h) (b : ℕ) (w : List ℕ) where
   abbrev E : Recording
@@ -61,22 +61,19 @@ module _ (f : List ℕ) (h : Trailer) (q : readingOf f ≡ Reading.Accepted h) (
 
   -- ---- the question
 
-  module _ (x y : ℕ) where
-    two : (t : Bool) → twoEvents E x y ≡ t → twoEvents (recordingOf f) x y ≡ t
-    two t p = sym (ap (λ (F : Recording). twoEvents F x y) same) ∙ p
+  -- the checks answer k, and leave w′
+  module _ (x y : ℕ) (k : Check) (w′ : List ℕ) (c : Checked E x y b w k w′) where
+    asked : (a : Answer) → a ≡ answerBy (recordingOf f) x y b k → Asked f x y b w a w′
+    asked a p = by-question f x y b w k (question-asked f h q s e v g x y w k (c .0)) a w′ p (c .1 ∙ ap (λ (F : Recording). after k (λ _. filled F b w) w) same)
 
-    pub two-numbered : twoEvents E x y ≡ true → Numbered s x × Numbered s y
-    two-numbered t = let (a, b, c) = all-three (ltb x (size E)) (ltb y (size E)) (not (eqb x y)) t in (ltb-true x (size E) a, ltb-true y (size E) b)
+    pub refused : (r : Refusal) → k ≡ Check.Failed r → Asked f x y b w (Answer.Refused r) w′
+    refused r p = asked (Answer.Refused r) (rw p)
 
-    pub no-events : twoEvents E x y ≡ false → Asked f x y b w (Answer.Refused Refusal.Event) w
-    no-events p = asked-event f x y b w (passed f h q) (two false p)
-
-    pub no-work : twoEvents E x y ≡ true → workFits E w ≡ false → Asked f x y b w (Answer.Refused Refusal.Work) w
-    no-work t p = asked-work f x y b w (passed f h q) (two true t) (fits false p)
-
-    pub answered : twoEvents E x y ≡ true → (p : workFits E w ≡ true) (w′ : List ℕ) (k : w′ ≡ filled E b w) (r : Relation)
-        → r ≡ inWork relationBy s (h .counts) w′ x y → Asked f x y b w (Answer.Related r) w′
+    pub answered : k ≡ Check.Passed → (r : Relation) → r ≡ inWork relationBy s (h .counts) w′ x y → Asked f x y b w (Answer.Related r) w′
     unfolding relationOf
-    answered t p w′ k r u =
-        related f x y b w (passed f h q) (two true t) (fits true p) r w′
-        (u ∙ ap₂ (λ (X R : Vectors). relationBy E X R x y) (safe-vectors s (h .counts) v E refl b w w′ k) (recorded-vectors s (h .counts) v E refl b w w′ k) ∙ ap (λ (F : Recording). relationOf F x y b) same) (now-filled p w′ k)
+    answered p r u =
+        let full : w′ ≡ filled E b w = rw p at (c .1) in
+        asked (Answer.Related r)
+        (rw p
+        (ap (λ (z : Relation). Answer.Related z)
+        (u ∙ ap₂ (λ (X R : Vectors). relationBy E X R x y) (safe-vectors s (h .counts) v E refl b w w′ full) (recorded-vectors s (h .counts) v E refl b w w′ full) ∙ ap (λ (F : Recording). relationOf F x y b) same)))

@@ -1,15 +1,12 @@
 // Analysing a recording file, and questions about two of its events.
 ghost use mathlib.Core.Path.{_≡_};
-ghost use mathlib.Core.List.{[]};
-ghost use Rattle.model.specs.File.{recordingBy};
 ghost use Rattle.model.specs.Reading.{readingOf};
 ghost use Rattle.model.specs.Analysing.{analysisOf, workAfterAnalysing, listAfterAnalysing};
-ghost use Rattle.model.specs.Question.{twoEvents, answerOf, workAfterAsking};
-ghost use Rattle.work.specs.Lent.{Ready};
+ghost use Rattle.model.specs.Question.{answerOf, workAfterAsking};
 ghost use Rattle.analysis.specs.Lent.{Analysed, Asked};
 use model::Analysis;
 use model::Answer;
-use model::Counts;
+use model::Check;
 use model::Reading;
 use model::Refusal;
 use model::Trailer;
@@ -60,15 +57,6 @@ pub fn analyse(file: &[u8], budget: u32, work: &mut [u16], list: &mut [u16]) -> 
     }
 }
 
-// Whether a and b are two different events of these records.
-fn two_events(records: &[u8], counts: Counts, a: usize, b: usize) -> bool
-    requires { ⌜ Ready (now records) counts ⌝ }
-    ensures { λ r. ⌜ r ≡ twoEvents (recordingBy (now (records .entry)) counts []) a b ⌝ }
-{
-    let n = records.len() / 4;
-    (a < n) & (b < n) & (a != b)
-}
-
 // The question about a file that reading accepts with this trailer.
 fn ask_read(
     file: &[u8],
@@ -84,15 +72,11 @@ fn ask_read(
     let records = events::records_of(file, trailer);
     let counts = trailer.counts;
     let levels = events::levels_of(file, trailer);
-    if !two_events(records, counts, a, b) {
-        return Answer::Refused(Refusal::Event);
-    }
-    if !work::work_fits(records, counts, work) {
-        return Answer::Refused(Refusal::Work);
-    }
     let positions = events::positions(records);
-    work::fill(records, counts, levels, &positions, budget, work);
-    Answer::Related(work::relate(records, counts, &positions, work, a, b))
+    match work::fill_asked(records, counts, levels, &positions, a, b, budget, work) {
+        Check::Passed => Answer::Related(work::relate(records, counts, &positions, work, a, b)),
+        Check::Failed(r) => Answer::Refused(r),
+    }
 }
 
 // Asks how events a and b of a recording file stand to each other, with a budget of passes. The work numbers are left as after

@@ -1,9 +1,11 @@
--- What acceptance says of each record: its kind is known, its names are, and it obeys the four rules.
+-- What acceptance says of each record: its kind is known, its names are, and it obeys the four rules. So much of each gives back
+-- acceptance.
 -- Assumes nothing.
 use Prim.Native.Nat.{ℕ, zero, suc, _<_}
-use mathlib.Core.Path.{_≡_, sym, subst}
+use mathlib.Core.Path.{_≡_, refl, sym, subst}
 use mathlib.Core.Bool.{true}
-use native.Mathlib.Nat.{not-suc-le-zero}
+use native.Mathlib.Nat.{le-refl, not-suc-le-zero}
+use native.Mathlib.Omega.{arith}
 use lib.Dec.{ltb}
 use lib.ListN.{take}
 use Rattle.model.specs.declared.Check.{Check}
@@ -43,3 +45,22 @@ module _ (E : Recording) where
     pub object-inside : (e : ℕ) → e < size E → event E e .object < namesOf (E .counts) (classOf (event E e .kind))
     unfolding named
     object-inside e l = ltb-true _ _ (second (ltb (taskOf E e) (tasks E)) _ (kept-at e l .names))
+
+  -- ---- back to acceptance
+
+  record-passes : (e : ℕ) → Kept E e → recordCheck (E .counts) (E .levels) (take e (E .events)) (event E e) ≡ Check.Passed
+  unfolding recordCheck obeys
+  record-passes e k =
+      let life = first (lifeKept (take e (E .events)) (event E e)) (waitKept (E .levels) (take e (E .events)) (event E e)) (k .rules) in
+      let wait = second (lifeKept (take e (E .events)) (event E e)) (waitKept (E .levels) (take e (E .events)) (event E e)) (k .rules) in
+      rw (k .kind, k .names, life, wait)
+
+  no-faults : (n : ℕ) → ((e : ℕ) → e < n → Kept E e) → firstFault E n ≡ Check.Passed
+  unfolding firstFault
+  no-faults zero h = refl
+  no-faults (suc n) h = rw (no-faults n (λ e l. h e (omega arith))) (record-passes n (h n (le-refl (suc n))))
+
+  -- a recording whose records keep the rules is accepted
+  pub kept-accepted : ((e : ℕ) → e < size E → Kept E e) → Accepted E
+  unfolding Accepted
+  kept-accepted h = no-faults (size E) h

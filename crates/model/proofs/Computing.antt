@@ -15,9 +15,10 @@ use Rattle.model.specs.LastEvent.{recordsRead}
 use Rattle.model.specs.Recorded.{matched, recordedTo, recorded}
 use Rattle.model.specs.Pairs.{conflict, racePair, mark, entriesOf, cellEntries, entriesIn, taskOrder, entries, listed, entryNumbers}
 use Rattle.model.specs.Analysing.{filled, workCheck, analysisCheck, analysisOf, workAfterAnalysing, listAfterAnalysing}
-use Rattle.model.specs.Question.{relationOf, questionCheck, answerOf, workAfterAsking}
-use Rattle.model.specs.Writing.{trailerBytes, fileOf, startsFit, recordsCheck, writingCheck, writtenOf, outAfterWriting}
+use Rattle.model.specs.Question.{relationOf, askedCheck, questionCheck, answerOf, workAfterAsking}
+use Rattle.model.specs.Writing.{trailerBytes, fileOf, recordsIn, startsFit, recordsCheck, writingCheck, writtenOf, outAfterWriting}
 use Rattle.model.specs.Together.{sameCounts, sameStarts, recordsAlike, tasksAlike, workAlike, atPosition, nameOf, markOf, jointMark, jointEntry, jointList, bothCheck, jointCheck, jointOf, firstWorkAfter, secondWorkAfter, jointListAfter}
+use Rattle.model.specs.Reversed.{bringForward, reversedFile, reversedCheck, reversedOf, workAfterReversing, outAfterReversing}
 use Rattle.model.specs.Text.{bytes, decimalIn}
 use Rattle.model.specs.Report.{field, resultLine, entryLine, entryText, entriesText, refusalLine, resultText, isLong, reportOf, workAfterReporting, listAfterReporting, laid, filling}
 use Rattle.model.specs.Rows.Starred.{RefusedAs}
@@ -31,19 +32,23 @@ unfolding place fileOrder filter flatMap flatMapTails picked lastOf nth largest 
 vectors = tt
 
 calls : Unit {0}
-unfolding conflict racePair mark entriesOf cellEntries entriesIn taskOrder entries listed entryNumbers filled workCheck analysisCheck analysisOf workAfterAnalysing listAfterAnalysing relationOf questionCheck answerOf workAfterAsking trailerBytes fileOf startsFit recordsCheck writingCheck writtenOf outAfterWriting
+unfolding conflict racePair mark entriesOf cellEntries entriesIn taskOrder entries listed entryNumbers filled workCheck analysisCheck analysisOf workAfterAnalysing listAfterAnalysing relationOf askedCheck questionCheck answerOf workAfterAsking trailerBytes fileOf startsFit recordsCheck writingCheck writtenOf outAfterWriting
 calls = tt
 
 together : Unit {0}
 unfolding sameCounts sameStarts recordsAlike tasksAlike workAlike atPosition nameOf markOf jointMark jointEntry jointList bothCheck jointCheck jointOf firstWorkAfter secondWorkAfter jointListAfter
 together = tt
 
+reversing : Unit {0}
+unfolding recordsIn bringForward reversedFile reversedCheck reversedOf workAfterReversing outAfterReversing
+reversing = tt
+
 printing : Unit {0}
 unfolding bytes decimalIn field resultLine entryLine entryText entriesText refusalLine resultText isLong reportOf workAfterReporting listAfterReporting laid filling
 printing = tt
 
 unfoldable pub rows : Unit {0}
-unfolding reading vectors calls together printing
+unfolding reading vectors calls together reversing printing
 rows = tt
 
 -- the refusal of a row; its number, record and pairs compute

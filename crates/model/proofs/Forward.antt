@@ -12,24 +12,21 @@ use Rattle.model.specs.declared.Event.{Event}
 use Rattle.model.specs.Numbers.{bit, tally, count, picked}
 use Rattle.model.specs.Recording.{startOf, event, ofTask, isSignal, isWait, isFork, isJoin, notJoined, forkKept, joinKept, waitKept, lifeKept, obeys, Accepted, Recording, size, taskOf, kindOf, objectOf, fork, join, wait}
 use Rattle.model.specs.Orders.{place, Precedes, occurrences, Admissible, fileOrder}
-use Rattle.model.specs.Vectors.{Vectors}
+use Rattle.model.specs.Vectors.{atOrBefore, ordered}
 use Rattle.model.specs.Passes.{previous, sources}
 use Rattle.model.specs.Recorded.{matched, recorded}
-use Rattle.model.proofs.Tests.{of-not, to-not, both, first, second, and-fails, implies-by, tests, ltb-true, lt-ltb, eqb-true, eq-eqb, ne-eqb, leb-true, all-three, ltb-false}
+use Rattle.model.specs.Reversed.{bringForward}
+use Rattle.model.proofs.Tests.{of-not, to-not, both, first, second, and-fails, and-false, implies-by, tests, ltb-true, lt-ltb, eqb-true, eq-eqb, ne-eqb, leb-true, all-three, ltb-false}
 use Rattle.model.proofs.Sum.{tally-zero, tally-has, tally-lt, tally-inject, rank-same, tally-le, tally-split, tally-first}
 use Rattle.model.proofs.Picked.{parted-once, parted-first, parted-rises}
 use Rattle.model.proofs.Rules.{sooner, earlier, count-earlier, obeying-by, kind-is, object-is, fork-other, join-other, fork-first, join-last, join-forked, one-fork, one-join}
 use Rattle.model.proofs.Sources.{last-some, last-found, in-found, has-previous, has-fork, has-join-fork, has-join-end, fork-found}
 use Rattle.model.proofs.FileOrder.{file-admissible, file-lower}
-use Rattle.model.proofs.Recorded.{upTo, matched-wait, matched-found, matched-lower, up-self, up-own, up-cause}
-
--- the events at or before x first, then the others, each in the order of the file
-unfoldable pub bringForward : Recording → Vectors → ℕ → List ℕ
-bringForward E X x = picked (upTo E X x) (size E) ++ picked (λ a. not (upTo E X x a)) (size E)
+use Rattle.model.proofs.Recorded.{matched-wait, matched-found, matched-lower, up-self, up-own, up-cause}
 
 module _ (E : Recording) (acc : Accepted E) (x : ℕ) (inside : x < size E) where
   abbrev up : ℕ → Bool
-  up a = upTo E (recorded E) x a
+  up a = atOrBefore (E .events) (recorded E) a x
 
   abbrev o : List ℕ
   o = picked up (size E) ++ picked (λ a. not (up a)) (size E)
@@ -190,7 +187,7 @@ module _ (E : Recording) (acc : Accepted E) (x : ℕ) (inside : x < size E) wher
   unfolding obeys lifeKept
   rules e l = both (both (both (not-joined e l) (fork-kept e l)) (join-kept e l)) (wait-kept e l)
 
-  pub forward-admissible : Admissible E (bringForward E (recorded E) x)
+  pub forward-admissible : Admissible E (bringForward (E .events) (recorded E) x)
   unfolding bringForward
   forward-admissible =
       record {
@@ -199,7 +196,8 @@ module _ (E : Recording) (acc : Accepted E) (x : ℕ) (inside : x < size E) wher
         rules = obeying-by E o once rules;
       }
 
-  -- what the recorded vectors do not put before x comes after it
-  pub forward-precedes : (a : ℕ) → upTo E (recorded E) x a ≡ false → Precedes (bringForward E (recorded E) x) x a
-  unfolding bringForward
-  forward-precedes a h = parted-first up (size E) x a inside (up-self E acc x inside) h
+  -- another event that the recorded vectors do not order before x comes after it
+  pub forward-precedes : (a : ℕ) → ¬ (a ≡ x) → ordered (E .events) (recorded E) a x ≡ false → Precedes (bringForward (E .events) (recorded E) x) x a
+  unfolding bringForward ordered
+  forward-precedes a d h =
+      parted-first up (size E) x a inside (up-self E acc x inside) (and-false (not (eqb a x)) (up a) h (to-not (ne-eqb a x d)))

@@ -10,7 +10,7 @@ use Rattle.model.specs.Recording.{Recording, size}
 use Rattle.model.specs.Recorded.{recorded}
 use Rattle.model.specs.Pairs.{mark, Entry, listed}
 use Rattle.model.specs.Together.{Named, nameOf, markOf, jointMark, jointEntry}
-use Rattle.model.proofs.Promise.{on-list, inside}
+use Rattle.model.proofs.Promise.{on-list, entry-inside}
 use Rattle.model.proofs.Twins.{finds, Twin, twin-name}
 
 mark-named : (E : Recording) (a b m : ℕ) → a < size E → b < size E
@@ -20,8 +20,8 @@ mark-named E a b m k l = rw (finds (E .events) _ _ a k refl refl, finds (E .even
 
 pub entry-mark : (E : Recording) (b : ℕ) (p : Entry) → List·Memᴰ p (listed E b) → markOf E (nameOf (E .events) p) ≡ p .mark
 entry-mark E b p h =
-    let r = on-list E b (p .first) (p .second) (p .mark) (inl h) in
-    mark-named E (p .first) (p .second) (p .mark) (inside E _ (r .first-in)) (inside E _ (r .second-in)) ∙ sym (r .marked)
+    let (k, l) = entry-inside E b p h in
+    mark-named E (p .first) (p .second) (p .mark) k l ∙ sym (on-list E b (p .first) (p .second) (p .mark) (inl h) .marked)
 
 pub twin-mark : (E F : Recording) (a b x y m : ℕ) → Twin (E .events) (F .events) a x → Twin (E .events) (F .events) b y
     → markOf F (nameOf (E .events) (record { first = a; second = b; mark = m })) ≡ mark F (recorded F) x y

@@ -14,7 +14,7 @@ use Rattle.model.specs.Together.{Named, nameOf, settledPairs, markOf, jo
 use Rattle.model.specs.OneJob.{SameWork, pairOf, NamedWith, OnJoint, JointPromise}
 use Rattle.model.proofs.Positions.{position-one}
 use Rattle.model.proofs.Least.{max-with}
-use Rattle.model.proofs.Promise.{on-list, inside, recording-promise}
+use Rattle.model.proofs.Promise.{entry-inside, recording-promise}
 use Rattle.model.proofs.Twins.{twin-name, twin-of}
 use Rattle.model.proofs.SameOrders.{sometimes-twins}
 use Rattle.model.proofs.JointMarks.{entry-mark}
@@ -40,9 +40,7 @@ module _ (E : Recording) where
 
   -- so of events of the recording
   name-inside : (a b : ℕ) → List·Memᴰ (pairOf E a b) (settledPairs E) → (a < size E) × (b < size E)
-  name-inside a b h =
-      let (m, k) = name-of a b h in
-      let r = on-list E (budgetOf E) a b m (inl k) in (inside E a (r .first-in), inside E b (r .second-in))
+  name-inside a b h = let (m, k) = name-of a b h in entry-inside E (budgetOf E) (record { first = a; second = b; mark = m }) k
 
   -- a pair that the recording itself makes sure goes both ways
   name-sure : Accepted E → (a b : ℕ) → List·Memᴰ (pairOf E a b) (settledPairs E) → markOf E (pairOf E a b) ≡ 1

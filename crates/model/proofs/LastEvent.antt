@@ -10,10 +10,10 @@ use lib.Seq.{length-take-le, getD-take}
 use Rattle.model.specs.declared.Event.{Event}
 use Rattle.model.specs.declared.Found.{Found}
 use Rattle.model.specs.Numbers.{lastOf}
-use Rattle.model.specs.Recording.{Recording, size, event, eventIn, noEvent, taskOf, ofTask, isJoin, Accepted}
+use Rattle.model.specs.Recording.{Recording, event, eventIn, noEvent, taskOf, ofTask, isJoin, Accepted}
 use Rattle.model.specs.Passes.{lastEvent}
 use Rattle.model.specs.Orders.{fileOrder}
-use Rattle.model.specs.LastEvent.{Looked, LookedBack, NoneAfterJoin, LastBeforeJoin}
+use Rattle.model.specs.LastEvent.{LookedBack, NoneAfterJoin, LastBeforeJoin}
 use Rattle.model.proofs.Tests.{clash, fails, last-or-lower, eqb-true}
 use Rattle.model.proofs.Rules.{join-last}
 use Rattle.model.proofs.Sources.{last-some, last-none}

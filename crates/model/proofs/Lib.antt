@@ -41,6 +41,8 @@ pub mod SamePairs
 pub mod Ascending
 pub mod Uncut
 pub mod RoundTrip
+pub mod Picking
+pub mod Shown
 pub mod Editions
 pub mod Computing
 pub mod Starred

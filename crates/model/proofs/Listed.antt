@@ -1,9 +1,9 @@
 -- What stands on the list, and that a larger budget leaves no more on it.
 -- Assumes nothing.
-use Prim.Native.Nat.{ℕ, _*_, _<_}
+use Prim.Native.Nat.{ℕ, suc, _+_, _*_, _<_}
 use mathlib.Core.Path.{_≡_, refl, sym, ap, subst, subst₂, _∙_}
 use mathlib.Core.Logic.{_⊎_, inl, inr}
-use mathlib.Core.Bool.{Bool, true, false, not, _&&_, _||_, and-comm, or-comm}
+use mathlib.Core.Bool.{Bool, true, false, cond, not, _&&_, _||_, and-comm, or-comm}
 use mathlib.Core.List.{List, [], _∷_, List·Memᴰ, List·Memᴰ·head, List·Memᴰ·tail, List·Memᴰ·not-nil, List·Memᴰ·eq-of-singleton, List·Memᴰ·append-cases, Memᴰ·append-left, Memᴰ·append-right}
 use native.Mathlib.Nat.{le-trans}
 use native.Mathlib.Omega.{arith}
@@ -14,7 +14,7 @@ use Rattle.model.specs.declared.Counts.{Counts}
 use Rattle.model.specs.Numbers.{flatMapTails}
 use Rattle.model.specs.Recording.{Recording, cells, event, taskOf, objectOf, classOf, namesOf, read, write}
 use Rattle.model.specs.Vectors.{Vectors, number, position, ordered, unordered}
-use Rattle.model.specs.Pairs.{isAccess, isWrite, conflict, racePair, mark, Entry, entry, entriesOf, rowAt, cellEntries, entriesIn, Among, entryNumbers}
+use Rattle.model.specs.Pairs.{isAccess, isWrite, conflict, racePair, mark, Entry, entry, entriesOf, rowAt, cellEntries, entriesIn, Among, entryNumbers, entryAt}
 use Rattle.model.specs.Rows.Conflicts.{Symmetric}
 use Rattle.model.proofs.Tests.{clash, fails, of-not, to-not, both, first, second, all-three, either, le-leb, leb-true, eqb-true, eqb-false, eq-eqb, eqb-turned}
 use Rattle.model.proofs.Climb.{AtMost}
@@ -30,6 +30,14 @@ symmetric v w =
 pub unordered-turned : (l : List Event) (X : Vectors) (a b : ℕ) → unordered l X a b ≡ unordered l X b a
 unfolding unordered
 unordered-turned l X a b = and-comm (not (ordered l X a b)) (not (ordered l X b a))
+
+-- neither is ordered before the other
+pub unordered-apart : (l : List Event) (X : Vectors) (a b : ℕ) → unordered l X a b ≡ true → (ordered l X a b ≡ false) × (ordered l X b a ≡ false)
+unfolding unordered
+unordered-apart l X a b h = (
+  of-not (ordered l X a b) (first _ (not (ordered l X b a)) h),
+  of-not (ordered l X b a) (second (not (ordered l X a b)) _ h),
+)
 
 -- a conflict is between accesses of one cell, from two tasks
 module _ (v w : Event) (h : conflict v w ≡ true) where
@@ -80,13 +88,8 @@ module _ (E : Recording) (X : Vectors) (a e : ℕ) where
     unfolding racePair
     race-unordered = second (conflict (event E a) (event E e)) (unordered (E .events) X a e) h
 
-    -- neither is ordered before the other
     pub race-apart : (ordered (E .events) X a e ≡ false) × (ordered (E .events) X e a ≡ false)
-    unfolding unordered
-    race-apart = (
-      of-not (ordered (E .events) X a e) (first _ (not (ordered (E .events) X e a)) race-unordered),
-      of-not (ordered (E .events) X e a) (second (not (ordered (E .events) X a e)) _ race-unordered),
-    )
+    race-apart = unordered-apart (E .events) X a e race-unordered
 
     -- they are on one cell, and of two tasks
     pub race-object : objectOf E a ≡ objectOf E e
@@ -103,6 +106,23 @@ race-more E X Y up a e h =
   where
     still : (a b : ℕ) → ordered (E .events) Y a b ≡ false → not (ordered (E .events) X a b) ≡ true
     still a b q = to-not (fails (ordered (E .events) X a b) (λ t. clash (ordered-more E X Y up a b t) q))
+
+-- ---- a mark tells whether the recorded vectors order the two events
+
+module _ (E : Recording) (R : Vectors) (a e : ℕ) (v : Bool) where
+  pub mark-by : unordered (E .events) R a e ≡ v → mark E R a e ≡ cond v 1 0
+  unfolding mark
+  mark-by h = ap (λ (u : Bool). cond u 1 0) h
+
+  pub mark-tells : mark E R a e ≡ cond v 1 0 → unordered (E .events) R a e ≡ v
+  unfolding mark
+  mark-tells h = go (unordered (E .events) R a e) v h
+    where
+      go : (u v : Bool) → _≡_ {A = ℕ} (cond u 1 0) (cond v 1 0) → u ≡ v
+      go true true h = refl
+      go false false h = refl
+      go true false h = absurd (omega arith)
+      go false true h = absurd (omega arith)
 
 -- ---- members of a list of entries, by any order of the events
 
@@ -210,3 +230,11 @@ pub numbers-length : (l : List Entry) → length (entryNumbers l) ≡ 3 * length
 unfolding entryNumbers
 numbers-length [] = refl
 numbers-length (p ∷ l) = omega (arith, numbers-length l)
+
+-- with one entry in front, an entry further on
+pub next-entry : (p : Entry) (l : List ℕ) (i : ℕ) → entryAt (p .first ∷ p .second ∷ p .mark ∷ l) (suc i) ≡ entryAt l i
+next-entry p l i =
+    let first : 3 * suc i ≡ suc (suc (suc (3 * i))) = omega arith in
+    let second : 3 * suc i + 1 ≡ suc (suc (suc (3 * i + 1))) = omega arith in
+    let third : 3 * suc i + 2 ≡ suc (suc (suc (3 * i + 2))) = omega arith in
+    rw (third, second, first)

@@ -4,29 +4,44 @@
 use Prim.Native.Nat.{ℕ, _≤_, _<_}
 use mathlib.Core.Path.{_≡_, refl, sym, ap, subst, _∙_}
 use mathlib.Core.Logic.{inl}
-use mathlib.Core.Bool.{Bool, true, false, cond, not}
+use mathlib.Core.Bool.{true, false}
 use mathlib.Core.List.{List·Memᴰ}
 use native.Mathlib.Omega.{arith}
-use lib.Dec.{eqb}
 use Rattle.model.specs.Recording.{Recording, size, tasks, event, taskOf, objectOf, Accepted}
-use Rattle.model.specs.Orders.{Admissible, Always, Sometimes, fileOrder}
+use Rattle.model.specs.Orders.{Precedes, Admissible, Always, Sometimes, fileOrder}
 use Rattle.model.specs.Vectors.{ordered, unordered}
 use Rattle.model.specs.Passes.{Run, needed, candidates, stepOne, passTo, run}
 use Rattle.model.specs.Recorded.{recorded}
 use Rattle.model.specs.Pairs.{Entry, conflict, racePair, mark, taskOrder, entries, listed, OnList}
+use Rattle.model.specs.Reversed.{bringForward}
 use Rattle.model.specs.Promise.{Promise, Promised, EnoughCandidates}
-use Rattle.model.proofs.Tests.{cases, of-not, to-not, both, first, second, and-false, ne-eqb}
+use Rattle.model.proofs.Tests.{cases, fails, to-not, both}
 use Rattle.model.proofs.Accept.{task-inside, object-inside}
 use Rattle.model.proofs.FileOrder.{file-admissible, file-lower}
 use Rattle.model.proofs.Sound.{passTo-length, ordered-precedes, step-one, passTo-safe, enough}
 use Rattle.model.proofs.Climb.{run-shaped, run-safe, settled-stays, budget-up}
 use Rattle.model.proofs.Settle.{settles}
-use Rattle.model.proofs.Recorded.{upTo}
-use Rattle.model.proofs.Forward.{bringForward, forward-admissible, forward-precedes}
-use Rattle.model.proofs.Listed.{Entered, among-of, among-in, race-tasks, race-more, conflict-cell}
+use Rattle.model.proofs.Forward.{forward-admissible, forward-precedes}
+use Rattle.model.proofs.Listed.{unordered-turned, unordered-apart, Entered, among-of, among-in, race-tasks, race-more, conflict-cell, mark-by, mark-tells}
 use Rattle.model.proofs.TaskOrder.{order-of, order-in}
 use Rattle.model.proofs.Files.{accepted-recording}
 use lib.ListN.{length}
+
+-- two different events that the recorded vectors do not order
+pub record Free (E : Recording) (a e : ℕ) : Type 0 where
+  pub first-inside : a < size E
+  pub second-inside : e < size E
+  pub apart : ¬ (a ≡ e)
+  pub free : unordered (E .events) (recorded E) a e ≡ true
+
+pub free-turned : {E : Recording} {a e : ℕ} → Free E a e → Free E e a
+free-turned {E} {a} {e} r =
+    record {
+      first-inside = r .second-inside;
+      second-inside = r .first-inside;
+      apart = λ q. r .apart (sym q);
+      free = unordered-turned (E .events) (recorded E) e a ∙ r .free;
+    }
 
 module _ (E : Recording) where
   -- what an entry of the list says of its two events
@@ -37,6 +52,20 @@ module _ (E : Recording) where
   -- they are events of the recording
   pub inside : (e : ℕ) → List·Memᴰ e (taskOrder (E .events) (tasks E)) → e < size E
   inside e h = order-of (E .events) (tasks E) e h
+
+  pub entry-inside : (b : ℕ) (p : Entry) → List·Memᴰ p (listed E b) → (p .first < size E) × (p .second < size E)
+  entry-inside b p h = let r = on-list b (p .first) (p .second) (p .mark) (inl h) in (inside _ (r .first-in), inside _ (r .second-in))
+
+  -- and where it is marked sure, the recorded vectors do not order them
+  pub sure-free : (b a e : ℕ) → OnList E a e b 1 → Free E a e
+  sure-free b a e h =
+      let r = on-list b a e 1 h in
+      record {
+        first-inside = inside a (r .first-in);
+        second-inside = inside e (r .second-in);
+        apart = λ z. race-tasks E (run E b .vectors) a e (r .race) (ap (taskOf E) z);
+        free = mark-tells E (recorded E) a e true (sym (r .marked));
+      }
 
 module _ (E : Recording) (acc : Accepted E) where
   file : Admissible E (fileOrder E)
@@ -80,31 +109,33 @@ module _ (E : Recording) (acc : Accepted E) where
 
   -- ---- sure
 
-  -- where the recorded vectors do not order a before e, some admissible order puts e first
-  other-way : (a e : ℕ) → e < size E → ¬ (a ≡ e) → ordered (E .events) (recorded E) a e ≡ false → Sometimes E e a
-  unfolding ordered
-  other-way a e l d apart =
-      let behind = and-false (not (eqb a e)) (upTo E (recorded E) e a) apart (to-not (ne-eqb a e d)) in
-      (bringForward E (recorded E) e, forward-admissible E acc e l, forward-precedes E acc e l a behind)
+  -- where the recorded vectors do not order a pair, bringing either event forward puts it first
+  pub free-first : (a e : ℕ) → Free E a e → Precedes (bringForward (E .events) (recorded E) a) a e
+  free-first a e r =
+      forward-precedes E acc a (r .first-inside) e (λ q. r .apart (sym q)) (unordered-apart (E .events) (recorded E) a e (r .free) .1)
 
-  -- where they do not order a pair, both orders are admissible
-  pub both-ways : (a e : ℕ) → a < size E → e < size E → ¬ (a ≡ e) → unordered (E .events) (recorded E) a e ≡ true → Sometimes E a e × Sometimes E e a
-  unfolding unordered
-  both-ways a e k l d u = (
-    other-way e a k (λ q. d (sym q)) (of-not _ (second (not (ordered (E .events) (recorded E) a e)) _ u)),
-    other-way a e l d (of-not _ (first (not (ordered (E .events) (recorded E) a e)) _ u)),
-  )
+  one-way : (a e : ℕ) → Free E a e → Sometimes E a e
+  one-way a e r = (bringForward (E .events) (recorded E) a, forward-admissible E acc a (r .first-inside), free-first a e r)
+
+  -- so that both orders are admissible
+  pub both-ways : (a e : ℕ) → Free E a e → Sometimes E a e × Sometimes E e a
+  both-ways a e r = (one-way a e r, one-way e a (free-turned r))
 
   sure : (b : ℕ) (p : Entry) → List·Memᴰ p (listed E b) → p .mark ≡ 1 → Sometimes E (p .first) (p .second) × Sometimes E (p .second) (p .first)
-  unfolding mark
-  sure b p m q =
-      let r = on-list E b (p .first) (p .second) (p .mark) (inl m) in
-      both-ways (p .first) (p .second) (inside E _ (r .first-in)) (inside E _ (r .second-in))
-      (λ z. race-tasks E (run E b .vectors) (p .first) (p .second) (r .race) (ap (taskOf E) z)) (is-sure _ (sym (r .marked) ∙ q))
-    where
-      is-sure : (t : Bool) → _≡_ {A = ℕ} (cond t 1 0) 1 → t ≡ true
-      is-sure true z = refl
-      is-sure false z = absurd (omega arith)
+  sure b p m q = both-ways (p .first) (p .second) (sure-free E b (p .first) (p .second) (subst (OnList E (p .first) (p .second) b) q (inl m)))
+
+  -- the safe vectors do not order such a pair either: it would come so in every admissible order
+  still-free : (b a e : ℕ) → Free E a e → ordered (E .events) (run E b .vectors) a e ≡ false
+  still-free b a e r =
+      let (o, adm, p) = one-way e a (free-turned r) in
+      fails (ordered (E .events) (run E b .vectors) a e)
+      (λ t. let q = ordered-always b a e (r .first-inside) (r .second-inside) t o adm in omega arith)
+
+  -- so a conflicting one is listed, and marked sure
+  pub free-listed : (b a e : ℕ) → Free E a e → conflict (event E a) (event E e) ≡ true → OnList E a e b 1
+  free-listed b a e r t =
+      subst (OnList E a e b) (mark-by E (recorded E) a e true (r .free))
+      (put b a e (r .first-inside) (r .second-inside) t (still-free b a e r) (still-free b e a (free-turned r)))
 
 -- ---- larger budgets
 

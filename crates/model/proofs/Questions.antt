@@ -1,19 +1,18 @@
 -- The answer to a question is read like the list, and what it says of two events holds of the admissible orders.
 -- Assumes nothing.
 use Prim.Native.Nat.{ℕ, _<_}
-use mathlib.Core.Path.{_≡_, refl, ap, subst}
+use mathlib.Core.Path.{_≡_, refl, sym, subst}
 use mathlib.Core.Logic.{_↔_}
 use mathlib.Core.Bool.{Bool, true, false, cond}
-use native.Mathlib.Omega.{arith}
 use Rattle.model.specs.declared.Relation.{Relation}
 use Rattle.model.specs.Recording.{Recording, size, event, Accepted}
 use Rattle.model.specs.Vectors.{ordered, unordered}
 use Rattle.model.specs.Passes.{safeVectors}
 use Rattle.model.specs.Recorded.{recorded}
-use Rattle.model.specs.Pairs.{conflict, mark, OnList}
+use Rattle.model.specs.Pairs.{conflict, OnList}
 use Rattle.model.specs.Question.{relationOf}
 use Rattle.model.specs.Questions.{QuestionPromise, QuestionPromised}
-use Rattle.model.proofs.Listed.{race-apart}
+use Rattle.model.proofs.Listed.{race-apart, mark-by, mark-tells}
 use Rattle.model.proofs.Promise.{on-list, ordered-always, put, both-ways}
 use Rattle.model.proofs.Files.{accepted-recording}
 
@@ -42,12 +41,6 @@ standing v = cond v Relation.Sure Relation.Open
 abbrev marked : Bool → ℕ
 marked v = cond v 1 0
 
-mark-same : (u v : Bool) → marked v ≡ marked u → u ≡ v
-mark-same true true h = refl
-mark-same false false h = refl
-mark-same true false h = absurd (omega arith)
-mark-same false true h = absurd (omega arith)
-
 module _ (E : Recording) (acc : Accepted E) (a b : ℕ) (k : a < size E) (l : b < size E) (apart : ¬ (a ≡ b)) (budget : ℕ) where
   abbrev before : Bool
   before = ordered (E .events) (safeVectors E budget) a b
@@ -65,21 +58,19 @@ module _ (E : Recording) (acc : Accepted E) (a b : ℕ) (k : a < size E) (l : b 
   -- ---- the answer and the list
 
   enlisted : (v : Bool) → conflict (event E a) (event E b) ≡ true → before ≡ false → after ≡ false → free ≡ v → OnList E a b budget (marked v)
-  unfolding mark
-  enlisted v t p q u = subst (OnList E a b budget) (ap marked u) (put E acc budget a b k l t p q)
+  enlisted v t p q u = subst (OnList E a b budget) (mark-by E (recorded E) a b v u) (put E acc budget a b k l t p q)
 
-  told-listed : (m : ℕ) → OnList E a b budget m → (before ≡ false) × (after ≡ false) × (m ≡ marked free)
-  unfolding mark
-  told-listed m h =
-      let r = on-list E budget a b m h in
+  told-listed : (v : Bool) → OnList E a b budget (marked v) → (before ≡ false) × (after ≡ false) × (free ≡ v)
+  told-listed v h =
+      let r = on-list E budget a b (marked v) h in
       let (p, q) = race-apart E (safeVectors E budget) a b (r .race) in
-      (p, q, r .marked)
+      (p, q, mark-tells E (recorded E) a b v (sym (r .marked)))
 
   listed-as : (v : Bool) → conflict (event E a) (event E b) ≡ true → (relationOf E a b budget ≡ standing v) ↔ OnList E a b budget (marked v)
   unfolding relationOf
   listed-as v t = (
     λ h. let (p, q, u) = by v h in enlisted v t p q u,
-    λ h. let (p, q, w) = told-listed (marked v) h in let u = mark-same free v w in rw (p, q, u),
+    λ h. let (p, q, u) = told-listed v h in rw (p, q, u),
   )
     where
       by : (v : Bool) → relationOf E a b budget ≡ standing v → (before ≡ false) × (after ≡ false) × (free ≡ v)
@@ -95,7 +86,7 @@ module _ (E : Recording) (acc : Accepted E) (a b : ℕ) (k : a < size E) (l : b 
         open-listed = listed-as false;
         first = λ h. ordered-always E acc budget a b k l (tells Relation.First h);
         second = λ h. ordered-always E acc budget b a l k (tells Relation.Second h);
-        sure = λ h. both-ways E acc a b k l apart (tells Relation.Sure h .2);
+        sure = λ h. both-ways E acc a b (record { first-inside = k; second-inside = l; apart = apart; free = tells Relation.Sure h .2 });
       }
 
 pub question-promise : QuestionPromised

@@ -14,7 +14,7 @@ use lib.ListN.{getD, set, List·getD-eq-default}
 use Rattle.model.specs.Numbers.{tally, largest, nth, found}
 use Rattle.model.specs.Recording.{startOf, event, ofTask, isSignal, isWait, Accepted, Recording, size, taskOf, kindOf, objectOf, tasks, wait}
 use Rattle.model.specs.Orders.{Admissible, fileOrder}
-use Rattle.model.specs.Vectors.{position, Vectors, number, start}
+use Rattle.model.specs.Vectors.{atOrBefore, position, Vectors, number, start}
 use Rattle.model.specs.Passes.{sources, gathered, signalsOn}
 use Rattle.model.specs.Recorded.{waitsBefore, matchWhere, matched, causes, recordedTo, recorded}
 use Rattle.model.proofs.Tests.{cases, tests, compared, ltb-true, ltb-false, le-ltb, eqb-true, eq-eqb, le-leb, leb-true, leb-false}
@@ -224,19 +224,15 @@ module _ (E : Recording) (acc : Accepted E) where
 
 -- ---- the events at or before x
 
--- the vectors put event a at or before x
-abbrev pub upTo : Recording → Vectors → ℕ → ℕ → Bool
-upTo E X x a = leb (position (E .events) a) (number X x (taskOf E a))
-
 module _ (E : Recording) (acc : Accepted E) where
-  pub up-self : (x : ℕ) → x < size E → upTo E (recorded E) x x ≡ true
+  pub up-self : (x : ℕ) → x < size E → atOrBefore (E .events) (recorded E) x x ≡ true
   up-self x l = le-leb _ _ (own-number E acc x l)
 
-  pub up-own : (x a b : ℕ) → a ≤ b → taskOf E a ≡ taskOf E b → upTo E (recorded E) x b ≡ true → upTo E (recorded E) x a ≡ true
+  pub up-own : (x a b : ℕ) → a ≤ b → taskOf E a ≡ taskOf E b → atOrBefore (E .events) (recorded E) b x ≡ true → atOrBefore (E .events) (recorded E) a x ≡ true
   up-own x a b h t u =
       le-leb _ _ (le-trans (position-grows (E .events) a b h t) (subst (λ (w : ℕ). position (E .events) b ≤ number (recorded E) x w) (sym t) (leb-true _ _ u)))
 
-  pub up-cause : (x a s : ℕ) → x < size E → a < size E → List·Memᴰ s (causes (E .levels) (E .events) a) → upTo E (recorded E) x a ≡ true → upTo E (recorded E) x s ≡ true
+  pub up-cause : (x a s : ℕ) → x < size E → a < size E → List·Memᴰ s (causes (E .levels) (E .events) a) → atOrBefore (E .events) (recorded E) a x ≡ true → atOrBefore (E .events) (recorded E) s x ≡ true
   up-cause x a s l k h u =
       let m = causes-lower E acc a s k h in
       le-leb _ _

@@ -16,7 +16,7 @@ use Rattle.model.specs.declared.Check.{Check}
 use Rattle.model.specs.declared.Reading.{Reading}
 use Rattle.model.specs.declared.Written.{Written}
 use Rattle.model.specs.Numbers.{listFrom, listOf}
-use Rattle.model.specs.File.{u16At, u32At, trailerAt, trailerOf, recordBytes, levelCount, levelBytes, recordingOf}
+use Rattle.model.specs.File.{u16At, u32At, trailerAt, trailerOf, recordBytes, levelCount, levelBytes, recordingBy, recordingOf}
 use Rattle.model.specs.Reading.{lastEdition, knownEdition, extentMet, inRange, fileCheck, readingOf, recordsOf, startsOf}
 use Rattle.model.specs.Acceptable.{InRange}
 use Rattle.model.specs.Writing.{u16Bytes, u32Bytes, trailerBytes, fileOf, fileLength, startsFit, recordsCheck, writingCheck, writtenBy, writtenOf, outAfterWriting}
@@ -139,6 +139,24 @@ module _ (s : List ℕ) (c : Counts) (b : List ℕ) where
           (λ t. let w = eqb-true _ _ t in rw (long, written-extent, t, written-bytes w, written-starts w, written-trailer, fit))
           (λ t. rw (long, written-extent, t, written-trailer))
 
+-- a file written from records that pass is accepted, and holds them, its start bytes and the recording that it was written from
+pub written-accepted : (s : List ℕ) (c : Counts) (b : List ℕ) → recordsCheck s c b ≡ Check.Passed
+    → (readingOf (fileOf s c b) ≡ Reading.Accepted (record { start = 0; records = length s / 4; counts = c }))
+    × (recordsOf (fileOf s c b) ≡ s) × (startsOf (fileOf s c b) ≡ b) × (recordingOf (fileOf s c b) ≡ recordingBy s c b)
+unfolding recordsCheck knownEdition readingOf recordsOf startsOf recordingOf
+written-accepted s c b checked =
+    let (edition, d) = unless-passed (knownEdition c) _ _ checked in
+    let (whole, e) = unless-passed (eqb (length s % 4) 0) _ _ d in
+    let (range, g) = unless-passed (inRange c (length s / 4)) _ _ e in
+    let (fit, _) = unless-passed (startsFit c b) _ _ g in
+    let divided = eqb-true (length s % 4) 0 whole in
+    let fits = fits-by s c (leb-true (c .edition) lastEdition (second (leb 1 (c .edition)) _ edition)) (in-range c (length s / 4) range) in
+    let same : fileCheck (fileOf s c b) ≡ Check.Passed = same-check s c b fits fit ∙ checked in
+    let trailer = written-trailer s c b fits in
+    let records = written-bytes s c b fits divided in
+    let starts = written-starts s c b fits fit divided in
+    (rw (same, trailer), rw (same, records), rw (same, starts), rw (records, starts, trailer))
+
 -- ---- writing what was read
 
 listed-all : (m : List ℕ) → m ≡ listOf (λ i. getD m i 0) (length m)
@@ -236,36 +254,20 @@ own-starts f ok =
 -- ---- the theorems
 
 -- writing answers a length only where its check passes
-written-passed : (s : List ℕ) (c : Counts) (b out : List ℕ) (n : ℕ) → writtenOf s c b out ≡ Written.Length n
-    → (writingCheck s c b out ≡ Check.Passed) × (n ≡ fileLength s b)
-unfolding writtenOf
-written-passed s c b out n q = go (writingCheck s c b out) refl q
-  where
-    go : (k : Check) → writingCheck s c b out ≡ k → writtenBy (fileLength s b) k ≡ Written.Length n → (writingCheck s c b out ≡ Check.Passed) × (n ≡ fileLength s b)
-    go Check.Passed e q = (e, cc)
-    go (Check.Failed r) e q = let z : _≡_ {A = ℕ} 0 1 = cc in absurd (omega arith)
+pub written-by : (k : Check) (m n : ℕ) → writtenBy m k ≡ Written.Length n → (k ≡ Check.Passed) × (n ≡ m)
+written-by Check.Passed m n q = (refl, cc)
+written-by (Check.Failed r) m n q = let z : _≡_ {A = ℕ} 0 1 = cc in absurd (omega arith)
 
 read-written : (s : List ℕ) (c : Counts) (b out : List ℕ) (n : ℕ) → writtenOf s c b out ≡ Written.Length n
     → (n ≡ length (fileOf s c b)) × (outAfterWriting s c b out ≡ fileOf s c b ++ drop n out)
     × (readingOf (fileOf s c b) ≡ Reading.Accepted (record { start = 0; records = length s / 4; counts = c }))
     × (recordsOf (fileOf s c b) ≡ s) × (startsOf (fileOf s c b) ≡ b)
-unfolding writingCheck recordsCheck knownEdition readingOf recordsOf startsOf outAfterWriting
+unfolding writtenOf writingCheck outAfterWriting
 read-written s c b out n q =
-    let (passed, long) = written-passed s c b out n q in
-    let (checked, room) = then-passed (recordsCheck s c b) _ passed in
-    let (edition, d) = unless-passed (knownEdition c) _ _ checked in
-    let (whole, e) = unless-passed (eqb (length s % 4) 0) _ _ d in
-    let (range, g) = unless-passed (inRange c (length s / 4)) _ _ e in
-    let (fit, h) = unless-passed (startsFit c b) _ _ g in
-    let divided = eqb-true (length s % 4) 0 whole in
-    let fits = fits-by s c (leb-true (c .edition) lastEdition (second (leb 1 (c .edition)) _ edition)) (in-range c (length s / 4) range) in
-    let same : fileCheck (fileOf s c b) ≡ Check.Passed = same-check s c b fits fit ∙ checked in (
-      long ∙ sym (file-length s c b),
-      rw (passed, long),
-      rw (same, written-trailer s c b fits),
-      rw (same, written-bytes s c b fits divided),
-      rw (same, written-starts s c b fits fit divided),
-    )
+    let (passed, long) = written-by (writingCheck s c b out) (fileLength s b) n q in
+    let (checked, _) = then-passed (recordsCheck s c b) _ passed in
+    let (accepted, records, starts, _) = written-accepted s c b checked in
+    (long ∙ sym (file-length s c b), rw (passed, long), accepted, records, starts)
 
 write-read : (f : List ℕ) → Bytes f → (h : Trailer) → readingOf f ≡ Reading.Accepted h → h .start ≡ 0 → (out : List ℕ) → length f ≤ length out
     → (writtenOf (recordsOf f) (h .counts) (startsOf f) out ≡ Written.Length (length f))

@@ -9,7 +9,7 @@ use Rattle.model.specs.declared.Relation.{Relation}
 use Rattle.model.specs.declared.Answer.{Answer}
 use Rattle.model.specs.declared.Written.{Written}
 use Rattle.model.specs.declared.Joint.{Joint}
-use Rattle.model.specs.Refusals.{numberOf, recordOf, differingTask, differingPosition}
+use Rattle.model.specs.Refusals.{numberOf, recordOf, pairsOf, differingTask, differingPosition}
 use Rattle.model.specs.Rows.Faults.{Faults}
 use Rattle.model.specs.Rows.Parts.{Parts}
 use Rattle.model.specs.Rows.Raised.{Raised}
@@ -20,6 +20,7 @@ use Rattle.model.specs.Rows.Lent.{Lent}
 use Rattle.model.specs.Rows.Printed.{Printed}
 use Rattle.model.specs.Rows.Beyond.{Beyond}
 use Rattle.model.specs.Rows.Joined.{Joined}
+use Rattle.model.specs.Rows.Reversed.{Turned}
 use Rattle.model.proofs.Computing.{rows, refusal}
 
 pub faults : Faults
@@ -306,3 +307,57 @@ joined = record {
     -- 14 at this task and position
     differ : (t p : ℕ) → (r : Refusal) × (Joint.Refused (Refusal.Differ t p) ≡ Joint.Refused r) × (numberOf r ≡ 14) × (recordOf r ≡ 0) × (differingTask r ≡ t) × (differingPosition r ≡ p)
     differ t p = (Refusal.Differ t p, refl, refl, refl, refl, refl)
+
+pub turned : Turned
+unfolding rows
+turned = record {
+  c-write = (refl, refl);
+  c-read = (refl, refl);
+  e-write = (refl, refl);
+  e-read = (refl, refl);
+  g-write = (refl, refl);
+  g-read = (refl, refl);
+  four-write = (refl, refl);
+  four-read = (refl, refl);
+  with-fork = (refl, refl);
+  with-join = (refl, refl);
+  alone = (refl, refl);
+  no-conflict = (refl, refl);
+  preamble = (refl, refl);
+  preamble-starts = (refl, refl);
+  unsure = unsure;
+  unsure-turned = unsure;
+  is-open = unsure;
+  open-turned = unsure;
+  one-task = unsure;
+  one-task-turned = unsure;
+  event-chosen = refusal Written.Refused Refusal.Event;
+  event-other = refusal Written.Refused Refusal.Event;
+  event-same = refusal Written.Refused Refusal.Event;
+  work-short = refusal Written.Refused Refusal.Work;
+  out-short = refusal Written.Refused Refusal.Out;
+  out-fits = refl;
+  out-short-starts = refusal Written.Refused Refusal.Out;
+  out-fits-starts = refl;
+  file-before-event = refusal Written.Refused (Refusal.Life 0);
+  event-before-work = refusal Written.Refused Refusal.Event;
+  work-before-unsure = refusal Written.Refused Refusal.Work;
+  unsure-before-out = refusal Written.Refused Refusal.Unsure;
+  work-left = refl;
+  work-unsure = refl;
+  work-left-analysed = refl;
+  work-starts-analysed = refl;
+  work-unsure-analysed = refl;
+  work-event = refl;
+  work-kept = refl;
+  work-file = refl;
+  out-file = refl;
+  out-event = refl;
+  out-work = refl;
+  out-unsure = refl;
+  out-kept = refl;
+}
+  where
+    unsure : (r : Refusal) × (Written.Refused Refusal.Unsure ≡ Written.Refused r)
+        × (numberOf r ≡ 15) × (recordOf r ≡ 0) × (pairsOf r ≡ 0) × (differingTask r ≡ 0) × (differingPosition r ≡ 0)
+    unsure = (Refusal.Unsure, refl, refl, refl, refl, refl, refl)

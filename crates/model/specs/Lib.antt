@@ -25,4 +25,6 @@ pub mod SamePairs
 pub mod Ascending
 pub mod Together
 pub mod OneJob
+pub mod Reversed
+pub mod Shown
 pub mod Rows

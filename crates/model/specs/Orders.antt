@@ -31,6 +31,10 @@ occurrences e o = count (eqb e) o
 abbrev pub rearranged : Recording → List ℕ → List Event
 rearranged E o = map (event E) o
 
+-- the recording with its records in this order
+abbrev pub inOrder : Recording → List ℕ → Recording
+inOrder E o = record { counts = E .counts; levels = E .levels; events = rearranged E o }
+
 -- each record obeys the four rules after those before it
 abbrev pub Obeying : Levels → List Event → Type 0
 Obeying x l = (i : ℕ) → i < length l → obeys x (take i l) (getD l i noEvent) ≡ true

@@ -1,11 +1,11 @@
 -- Conflicts, race pairs, their marks, and the list (document 01, List and marks; 02, No. 2).
 -- Assumes nothing.
-use Prim.Native.Nat.{ℕ}
+use Prim.Native.Nat.{ℕ, _+_, _*_}
 use mathlib.Core.Bool.{Bool, cond, not, _&&_, _||_}
 use mathlib.Core.List.{List, [], _∷_, List·Memᴰ}
 use mathlib.Core.Logic.{_⊎_}
 use lib.Dec.{eqb}
-use lib.ListN.{length}
+use lib.ListN.{length, getD}
 use Rattle.model.specs.declared.Event.{Event}
 use Rattle.model.specs.Numbers.{each, flatMap, flatMapTails, picked}
 use Rattle.model.specs.Recording.{Recording, tasks, cells, event, eventIn, objectOf, ofTask, read, write}
@@ -89,3 +89,7 @@ OnList E a b budget m = Among (listed E budget) a b m
 unfoldable pub entryNumbers : List Entry → List ℕ
 entryNumbers [] = []
 entryNumbers (p ∷ l) = p .first ∷ p .second ∷ p .mark ∷ entryNumbers l
+
+-- the entry at place i of such numbers
+abbrev pub entryAt : List ℕ → ℕ → Entry
+entryAt list i = record { first = getD list (3 * i) 0; second = getD list (3 * i + 1) 0; mark = getD list (3 * i + 2) 0 }

@@ -38,13 +38,16 @@ relationOf E a b budget = relationBy E (safeVectors E budget) (recorded E) a b
 abbrev pub twoEvents : Recording → ℕ → ℕ → Bool
 twoEvents E a b = ltb a (size E) && ltb b (size E) && not (eqb a b)
 
--- the file's refusal, then 11, then 9
-unfoldable pub questionCheck : List ℕ → ℕ → ℕ → List ℕ → Check
-questionCheck f a b work =
-    andThen (fileCheck f) λ _.
-    unless (twoEvents (recordingOf f) a b) Refusal.Event λ _.
-    unless (workFits (recordingOf f) work) Refusal.Work λ _.
+-- 11, then 9
+unfoldable pub askedCheck : Recording → ℕ → ℕ → List ℕ → Check
+askedCheck E a b work =
+    unless (twoEvents E a b) Refusal.Event λ _.
+    unless (workFits E work) Refusal.Work λ _.
     Check.Passed
+
+-- the file's refusal, then these
+unfoldable pub questionCheck : List ℕ → ℕ → ℕ → List ℕ → Check
+questionCheck f a b work = andThen (fileCheck f) λ _. askedCheck (recordingOf f) a b work
 
 abbrev pub answerBy : Recording → ℕ → ℕ → ℕ → Check → Answer
 answerBy E a b budget Check.Passed = Answer.Related (relationOf E a b budget)

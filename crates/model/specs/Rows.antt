@@ -14,3 +14,4 @@ pub mod Lent
 pub mod Printed
 pub mod Beyond
 pub mod Joined
+pub mod Reversed

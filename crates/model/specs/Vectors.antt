@@ -30,9 +30,13 @@ flat (r ∷ X) = r ++ flat X
 unfoldable pub start : Recording → Vectors
 start E = listOf (λ e. listOf (λ t. cond (eqb t (taskOf E e)) (position (E .events) e) 0) (tasks E)) (size E)
 
--- event a is ordered before another event b: b's number for a's task is at least a's position
+-- event a is at or before event b: b's number for a's task is at least a's position
+abbrev pub atOrBefore : List Event → Vectors → ℕ → ℕ → Bool
+atOrBefore l X a b = leb (position l a) (number X b (eventIn l a .task))
+
+-- event a is ordered before another event b
 unfoldable pub ordered : List Event → Vectors → ℕ → ℕ → Bool
-ordered l X a b = not (eqb a b) && leb (position l a) (number X b (eventIn l a .task))
+ordered l X a b = not (eqb a b) && atOrBefore l X a b
 
 -- neither event is ordered before the other
 unfoldable pub unordered : List Event → Vectors → ℕ → ℕ → Bool

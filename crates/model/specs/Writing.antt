@@ -1,14 +1,15 @@
 -- Writing a file (document 01, Two events, writing, printing; 02, No. 1): of record bytes s, counts c and start bytes b.
 -- Assumes nothing.
-use Prim.Native.Nat.{ℕ, _+_, _/_, _%_}
+use Prim.Native.Nat.{ℕ, _+_, _*_, _/_, _%_}
 use mathlib.Core.Bool.{Bool}
 use mathlib.Core.List.{List, [], _∷_, _++_}
 use lib.Dec.{leb, eqb}
-use lib.ListN.{length, drop}
+use lib.ListN.{length, getD, drop}
 use Rattle.model.specs.declared.Counts.{Counts}
 use Rattle.model.specs.declared.Refusal.{Refusal}
 use Rattle.model.specs.declared.Check.{Check}
 use Rattle.model.specs.declared.Written.{Written}
+use Rattle.model.specs.Numbers.{flatMap}
 use Rattle.model.specs.Refusals.{unless, andThen, after}
 use Rattle.model.specs.Recording.{size, firstFault}
 use Rattle.model.specs.File.{levelCount, recordingBy}
@@ -33,6 +34,22 @@ fileOf s c b = s ++ b ++ trailerBytes (length s / 4) c
 -- its length
 abbrev pub fileLength : List ℕ → List ℕ → ℕ
 fileLength s b = length s + length b + 16
+
+-- ---- records picked from others
+
+-- the four bytes of record e
+abbrev pub recordAt : List ℕ → ℕ → List ℕ
+recordAt s e = getD s (4 * e) 0 ∷ getD s (4 * e + 1) 0 ∷ getD s (4 * e + 2) 0 ∷ getD s (4 * e + 3) 0 ∷ []
+
+-- of these record bytes the records that o names, in its order
+unfoldable pub recordsIn : List ℕ → List ℕ → List ℕ
+recordsIn s o = flatMap (recordAt s) o
+
+-- the file of these
+abbrev pub fileIn : List ℕ → List ℕ → Counts → List ℕ → List ℕ
+fileIn s o c b = fileOf (recordsIn s o) c b
+
+-- ---- writing
 
 -- the start bytes are as many as the edition takes: 1 none, 2 one for each semaphore
 unfoldable pub startsFit : Counts → List ℕ → Bool

@@ -85,6 +85,7 @@ pub enum Refusal {
     Out,
     Starts,
     Differ { task: u16, position: u16 },
+    Unsure,
 }
 
 // The outcome of a check.
@@ -167,6 +168,7 @@ impl Refusal {
             Refusal::Out => 12,
             Refusal::Starts => 13,
             Refusal::Differ { .. } => 14,
+            Refusal::Unsure => 15,
         }
     }
 
@@ -189,6 +191,7 @@ impl Refusal {
             Refusal::Out => 0,
             Refusal::Starts => 0,
             Refusal::Differ { .. } => 0,
+            Refusal::Unsure => 0,
         }
     }
 
@@ -211,6 +214,7 @@ impl Refusal {
             Refusal::Out => 0,
             Refusal::Starts => 0,
             Refusal::Differ { .. } => 0,
+            Refusal::Unsure => 0,
         }
     }
 
@@ -233,6 +237,7 @@ impl Refusal {
             Refusal::Event => 0,
             Refusal::Out => 0,
             Refusal::Starts => 0,
+            Refusal::Unsure => 0,
         }
     }
 
@@ -255,6 +260,7 @@ impl Refusal {
             Refusal::Event => 0,
             Refusal::Out => 0,
             Refusal::Starts => 0,
+            Refusal::Unsure => 0,
         }
     }
 }

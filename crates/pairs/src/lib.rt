@@ -47,7 +47,7 @@ pub fn conflict(v: Event, w: Event) -> bool
 }
 
 // Whether the vectors order neither event before the other.
-fn unordered(
+pub fn unordered(
     records: &[u8],
     counts: Counts,
     positions: &[u16],

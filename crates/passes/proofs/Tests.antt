@@ -5,11 +5,9 @@ use mathlib.Core.Path.{_≡_, sym, _∙_}
 use mathlib.Core.Bool.{Bool, true, false, _&&_}
 use mathlib.Core.List.{List}
 use native.Mathlib.Omega.{arith}
-use lib.Dec.{leb}
 use lib.ListN.{length}
 use Rattle.model.specs.declared.Event.{Event}
-use Rattle.model.specs.Recording.{eventIn}
-use Rattle.model.specs.Vectors.{Vectors, number, position, ordered}
+use Rattle.model.specs.Vectors.{Vectors, atOrBefore, ordered}
 use Rattle.model.proofs.Tests.{eq-eqb, ne-eqb}
 use Rattle.vectors.proofs.Chunks.{next-row}
 
@@ -22,9 +20,9 @@ module _ (l : List Event) (X : Vectors) (a b : ℕ) where
   unfolding ordered
   ordered-self h = rw (eq-eqb a b h)
 
-  pub ordered-by : (x y : ℕ) → (a ≡ b → ⊥) → x ≡ position l a → y ≡ number X b (eventIn l a .task) → leb x y ≡ ordered l X a b
+  pub ordered-other : (a ≡ b → ⊥) → {r : Bool} → r ≡ atOrBefore l X a b → r ≡ ordered l X a b
   unfolding ordered
-  ordered-by x y h p q = rw (p, q, ne-eqb a b h)
+  ordered-other h q = q ∙ rw (ne-eqb a b h)
 
 -- a test that comes first, and one behind it
 pub and-passed : (r p q x : Bool) → r ≡ p → r ≡ true → x ≡ q → x ≡ (p && q)

@@ -8,7 +8,7 @@ ghost use lib.Seq.{sets};
 ghost use mathlib.Core.Bool.{true};
 ghost use Rattle.model.specs.Recording.{eventIn, kindOf, join, isJoin};
 ghost use Rattle.model.specs.File.{eventsOf, levelsBy, recordingBy};
-ghost use Rattle.model.specs.Vectors.{flat, start, ordered};
+ghost use Rattle.model.specs.Vectors.{atOrBefore, flat, start, ordered};
 ghost use Rattle.model.specs.Passes.{lastEvent, joinSources, stepOne, kOf, pass, run};
 ghost use Rattle.model.specs.Recorded.{matched, recorded};
 ghost use Rattle.model.specs.LastEvent.{NoneAfterJoin};
@@ -37,6 +37,24 @@ pub struct Outcome {
     pub settled: bool,
 }
 
+// Whether the vectors put event a at or before event b.
+pub fn at_or_before(
+    records: &[u8],
+    counts: Counts,
+    positions: &[u16],
+    v: &[u16],
+    a: usize,
+    b: usize,
+) -> bool
+    requires { ⌜ Placed (now records) counts (now positions) × Fitting (now records) counts (now v) ⌝ }
+    requires { ⌜ Numbered (now records) a × Numbered (now records) b ⌝ }
+    ensures { λ r. ⌜ r ≡ atOrBefore (eventsOf (now (records .entry))) (vectorsIn (now (records .entry)) counts (now (v .entry))) a b ⌝ }
+{
+    let e = events::event_at(records, a);
+    let tasks = counts.tasks as usize;
+    positions[a] <= vectors::number(v, b, tasks, e.task as usize)
+}
+
 // Whether the vectors order event a before event b.
 pub fn ordered(
     records: &[u8],
@@ -53,9 +71,7 @@ pub fn ordered(
     if a == b {
         return false;
     }
-    let e = events::event_at(records, a);
-    let tasks = counts.tasks as usize;
-    positions[a] <= vectors::number(v, b, tasks, e.task as usize)
+    at_or_before(records, counts, positions, v, a, b)
 }
 
 // Raises vector e to that of a found event. Answers whether any number rose.

@@ -1,6 +1,6 @@
 -- The lines of the entries: one more at each turn, and in the end those of the list.
 -- Assumes nothing.
-use Prim.Native.Nat.{ℕ, zero, suc, _+_, _*_, _/_, _≤_}
+use Prim.Native.Nat.{ℕ, zero, suc, _+_, _/_, _≤_}
 use mathlib.Core.Path.{_≡_, refl, sym, ap, _∙_}
 use mathlib.Core.List.{List, [], _∷_, _++_, append-assoc, append-nil}
 use native.Mathlib.Numerals.{add-one}
@@ -11,6 +11,7 @@ use Rattle.model.specs.Recording.{noEvent}
 use Rattle.model.specs.File.{eventsOf}
 use Rattle.model.specs.Pairs.{Entry, entryNumbers}
 use Rattle.model.proofs.Files.{events-length}
+use Rattle.model.proofs.Listed.{next-entry}
 use Rattle.printing.specs.Output.{Put}
 use Rattle.model.specs.Report.{entryText, entriesText}
 use Rattle.printing.specs.Entries.{objectIn, nthLine}
@@ -43,25 +44,11 @@ unfolding each
 each-alike f g zero h = refl
 each-alike f g (suc n) h = rw (each-alike f g n h, h n)
 
--- the numbers of a list with one entry in front, an entry further on
-next-line : (s : List ℕ) (a b m : ℕ) (l : List ℕ) (i : ℕ) → nthLine s (a ∷ b ∷ m ∷ l) (suc i) ≡ nthLine s l i
-unfolding nthLine
-next-line s a b m l i =
-    let first : 3 * suc i ≡ suc (suc (suc (3 * i))) = omega arith in
-    let second : 3 * suc i + 1 ≡ suc (suc (suc (3 * i + 1))) = omega arith in
-    let third : 3 * suc i + 2 ≡ suc (suc (suc (3 * i + 2))) = omega arith in
-    rw (third, second, first)
-
-first-line : (s : List ℕ) (p : Entry) (l : List ℕ) → nthLine s (p .first ∷ p .second ∷ p .mark ∷ l) 0 ≡ entryText (eventsOf s) p
-unfolding nthLine entryText
-first-line s p l = refl
-
 -- one line for each entry of the list that the numbers hold
 pub each-entry : (s : List ℕ) (l : List Entry) (rest : List ℕ) → each (nthLine s (entryNumbers l ++ rest)) (length l) ≡ entriesText (eventsOf s) l
-unfolding entryNumbers entriesText
+unfolding entryNumbers entriesText nthLine
 each-entry s [] rest = none _
 each-entry s (p ∷ l) rest =
-    let L = entryNumbers (p ∷ l) ++ rest in
-    each-cons (nthLine s L) (length l)
-    ∙ ap (λ (x : List ℕ). nthLine s L 0 ++ x) (each-alike _ _ (length l) (next-line s (p .first) (p .second) (p .mark) (entryNumbers l ++ rest)) ∙ each-entry s l rest)
-    ∙ ap (λ (x : List ℕ). x ++ entriesText (eventsOf s) l) (first-line s p (entryNumbers l ++ rest))
+    each-cons (nthLine s (entryNumbers (p ∷ l) ++ rest)) (length l)
+    ∙ ap (λ (x : List ℕ). entryText (eventsOf s) p ++ x)
+    (each-alike _ _ (length l) (λ i. ap (entryText (eventsOf s)) (next-entry p (entryNumbers l ++ rest) i)) ∙ each-entry s l rest)

@@ -1,10 +1,10 @@
 -- The lines of the entries, from record bytes and the numbers of a list.
 -- Assumes nothing.
-use Prim.Native.Nat.{ℕ, _+_, _*_}
+use Prim.Native.Nat.{ℕ}
 use mathlib.Core.List.{List}
-use lib.ListN.{getD}
 use Rattle.model.specs.File.{eventsOf}
-use Rattle.model.specs.Report.{entryLine}
+use Rattle.model.specs.Pairs.{entryAt}
+use Rattle.model.specs.Report.{entryText}
 use Rattle.model.specs.Recording.{eventIn}
 
 -- the object of event e
@@ -13,4 +13,4 @@ objectIn s e = eventIn (eventsOf s) e .object
 
 -- the line of entry i
 unfoldable pub nthLine : List ℕ → List ℕ → ℕ → List ℕ
-nthLine s list i = entryLine (objectIn s (getD list (3 * i) 0)) (getD list (3 * i) 0) (getD list (3 * i + 1) 0) (getD list (3 * i + 2) 0)
+nthLine s list i = entryText (eventsOf s) (entryAt list i)

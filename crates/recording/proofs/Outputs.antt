@@ -1,14 +1,12 @@
 -- What writing checks, answers and leaves in the output, test by test. Assumes nothing.
-use mathlib.Core.Path.{_≡_, _∙_}
+use mathlib.Core.Path.{_≡_}
 use mathlib.Core.Bool.{true, false}
 use mathlib.Core.List.{List, _++_}
 use Prim.Native.Nat.{ℕ, _+_, _/_, _%_, _≤_, _<_}
-use native.Mathlib.Nat.{zero-add}
 use native.Mathlib.Omega.{arith}
 use borrow.Author.Tests.{le-leb, lt-leb, ne-eqb, eqb-true, leb-true}
 use lib.Dec.{leb, eqb}
-use lib.ListN.{length, take, drop, length-append}
-use lib.Seq.{take-append-seam, drop-append-add, drop-drop}
+use lib.ListN.{length, drop}
 use Rattle.model.specs.declared.Counts.{Counts}
 use Rattle.model.specs.declared.Refusal.{Refusal}
 use Rattle.model.specs.declared.Check.{Check}
@@ -17,7 +15,7 @@ use Rattle.model.specs.Refusals.{unless}
 use Rattle.model.specs.Recording.{firstFault}
 use Rattle.model.specs.File.{levelCount, recordingBy}
 use Rattle.model.specs.Reading.{knownEdition, inRange}
-use Rattle.model.specs.Writing.{trailerBytes, fileOf, fileLength, startsFit, recordsCheck, writingCheck, writtenOf, outAfterWriting}
+use Rattle.model.specs.Writing.{fileOf, fileLength, startsFit, recordsCheck, writingCheck, writtenOf, outAfterWriting}
 use Rattle.model.proofs.Tests.{cases}
 use Rattle.model.proofs.Checks.{unless-passed, then-passed}
 use Rattle.model.proofs.Files.{in-range, events-length}
@@ -99,23 +97,3 @@ module _ (s : List ℕ) (c : Counts) (b : List ℕ) where
       pub kept : out ≡ outAfterWriting s c b out
       unfolding outAfterWriting
       kept = rw p
-
--- ---- the three copies: the records at the front, the start bytes behind them, and then the trailer
-
--- a copy of t behind s, which stands at the front
-behind : (s t out one two : List ℕ) → one ≡ s ++ drop (length s) out → two ≡ take (length s) one ++ t ++ drop (length s + length t) one
-    → two ≡ (s ++ t) ++ drop (length s + length t) out
-behind s t out one two p q =
-    q ∙ rw (p, take-append-seam s (drop (length s) out), drop-append-add s (drop (length s) out) (length t), drop-drop (length t) (length s) out)
-
-pub copied : (s b t out one two three : List ℕ) → one ≡ take 0 out ++ s ++ drop (0 + length s) out
-    → two ≡ take (length s) one ++ b ++ drop (length s + length b) one
-    → three ≡ take (length s + length b) two ++ t ++ drop (length s + length b + length t) two
-    → (c : Counts) → t ≡ trailerBytes (length s / 4) c → three ≡ fileOf s c b ++ drop (fileLength s b) out
-unfolding fileOf trailerBytes
-copied s b t out one two three p q r c e =
-    let a : one ≡ s ++ drop (length s) out = rw (zero-add (length s)) at p in
-    let l = length-append s b in
-    let m : two ≡ (s ++ b) ++ drop (length (s ++ b)) out = rw l (behind s b out one two a q) in
-    let n : three ≡ take (length (s ++ b)) two ++ t ++ drop (length (s ++ b) + length t) two = rw l r in
-    rw (e, l) at (behind (s ++ b) t out two three m n)

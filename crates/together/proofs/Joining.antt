@@ -3,7 +3,6 @@
 use Prim.Native.Nat.{ℕ, zero, suc, _+_, _*_, _≤_, _<_}
 use mathlib.Core.Path.{_≡_, refl, sym, ap, ap₂, subst, _∙_}
 use mathlib.Core.Bool.{Bool, true, false}
-use mathlib.Core.Logic.{inl}
 use mathlib.Core.List.{List, [], _∷_, _++_, map, List·Memᴰ, List·Memᴰ·head, List·Memᴰ·tail}
 use native.Mathlib.Nat.{le-of-suc-le-suc, not-suc-le-zero}
 use native.Mathlib.Omega.{arith}
@@ -17,28 +16,20 @@ use Rattle.model.specs.Recording.{Recording, size, eventIn}
 use Rattle.model.specs.File.{eventsOf, recordingBy}
 use Rattle.model.specs.Passes.{budgetOf}
 use Rattle.model.specs.Recorded.{recorded}
-use Rattle.model.specs.Pairs.{mark, Entry, listed, entryNumbers}
+use Rattle.model.specs.Pairs.{mark, Entry, listed, entryNumbers, entryAt}
 use Rattle.model.specs.Together.{nameOf, settledPairs, jointMark, jointEntry, jointList, jointFits}
 use Rattle.model.specs.Vectors.{Vectors}
 use Rattle.model.proofs.Tests.{leb-true}
-use Rattle.model.proofs.Listed.{numbers-length}
+use Rattle.model.proofs.Listed.{numbers-length, next-entry}
 use Rattle.model.proofs.Lists.{listOf-length, listOf-at}
-use Rattle.model.proofs.Promise.{on-list, inside}
+use Rattle.model.proofs.Promise.{entry-inside}
 use Rattle.model.proofs.Twins.{Twin}
 use Rattle.model.proofs.JointMarks.{entry-mark, twin-mark}
 use Rattle.passes.specs.Lent.{Records}
 use Rattle.pairs.specs.Lent.{WrittenList}
-use Rattle.together.specs.Naming.{entryAt, entriesAt, named}
+use Rattle.together.specs.Naming.{entriesAt, named}
 
 -- ---- entries read from their numbers
-
--- with one entry in front, an entry further on
-next-entry : (p : Entry) (l : List ℕ) (i : ℕ) → entryAt (p .first ∷ p .second ∷ p .mark ∷ l) (suc i) ≡ entryAt l i
-next-entry p l i =
-    let first : 3 * suc i ≡ suc (suc (suc (3 * i))) = omega arith in
-    let second : 3 * suc i + 1 ≡ suc (suc (suc (3 * i + 1))) = omega arith in
-    let third : 3 * suc i + 2 ≡ suc (suc (suc (3 * i + 2))) = omega arith in
-    rw (third, second, first)
 
 pub entry-read : (d : Entry) (es : List Entry) (rest : List ℕ) (i : ℕ) → i < length es → entryAt (entryNumbers es ++ rest) i ≡ getD es i d
 unfolding entryNumbers
@@ -60,10 +51,6 @@ read-in (p ∷ es) d zero h = List·Memᴰ·head refl
 read-in (p ∷ es) d (suc i) h = List·Memᴰ·tail (read-in es d i (le-of-suc-le-suc h))
 
 -- ---- the one list
-
--- the events of an entry are the recording's
-pub entry-inside : (E : Recording) (b : ℕ) (p : Entry) → List·Memᴰ p (listed E b) → (p .first < size E) × (p .second < size E)
-entry-inside E b p h = let r = on-list E b (p .first) (p .second) (p .mark) (inl h) in (inside E _ (r .first-in), inside E _ (r .second-in))
 
 flat-map : {A B : Type 0} (f : A → List ℕ) (g : B → List ℕ) (h : A → B) (l : List A) → ((x : A) → List·Memᴰ x l → f x ≡ g (h x)) → flatMap f l ≡ flatMap g (map h l)
 unfolding flatMap

@@ -11,8 +11,8 @@ use Rattle.model.specs.declared.Event.{Event}
 use Rattle.model.specs.Numbers.{flatMap, listFrom}
 use Rattle.model.specs.Recording.{Recording, eventIn}
 use Rattle.model.specs.Vectors.{Vectors, position}
-use Rattle.model.specs.Pairs.{Entry}
-use Rattle.together.specs.Naming.{entryAt, entriesAt, eitherMark, named}
+use Rattle.model.specs.Pairs.{Entry, entryAt}
+use Rattle.together.specs.Naming.{entriesAt, eitherMark, named}
 
 -- the numbers that are stored are those of the entry
 pub stored-named : (l : List Event) (F : Recording) (R : Vectors) (kept : List ℕ) (a b m : ℕ) (out : List ℕ) (at : ℕ) (v w : Event) (p q k : ℕ)

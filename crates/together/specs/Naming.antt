@@ -11,17 +11,14 @@ use Rattle.model.specs.Recording.{Recording, eventIn}
 use Rattle.model.specs.File.{eventsOf, recordingBy}
 use Rattle.model.specs.Reading.{mostEvents}
 use Rattle.model.specs.Vectors.{Vectors, position}
-use Rattle.model.specs.Pairs.{mark, Entry}
+use Rattle.model.specs.Pairs.{mark, Entry, entryAt}
 use Rattle.events.specs.Kept.{Positions}
 use Rattle.model.specs.Together.{ownRecords}
 use Rattle.passes.specs.Lent.{vectorsIn, Fitting, Numbered, Records, Placed}
 use Rattle.work.specs.Lent.{Ready, Roomy, recordedIn}
 use Rattle.alike.specs.Alike.{Counterparts}
 
--- the entry at place i of a list of such numbers, and the first n of them
-abbrev pub entryAt : List ℕ → ℕ → Entry
-entryAt list i = record { first = getD list (3 * i) 0; second = getD list (3 * i + 1) 0; mark = getD list (3 * i + 2) 0 }
-
+-- the first n entries of a list of such numbers
 abbrev pub entriesAt : List ℕ → ℕ → List Entry
 entriesAt list n = listOf (entryAt list) n
 

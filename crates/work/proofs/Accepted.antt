@@ -4,16 +4,17 @@ use mathlib.Core.Path.{_≡_, sym, ap, ap₂, subst, _∙_}
 use mathlib.Core.List.{List}
 use Prim.Native.Nat.{ℕ, _+_, _*_, _/_, _≤_, _<_}
 use native.Mathlib.Omega.{arith}
-use lib.ListN.{length}
+use lib.Dec.{eqb}
+use lib.ListN.{length, drop, length-take}
 use Rattle.model.specs.declared.Counts.{Counts}
 use Rattle.model.specs.declared.Trailer.{Trailer}
 use Rattle.model.specs.declared.Check.{Check}
 use Rattle.model.specs.declared.Reading.{Reading}
 use Rattle.model.specs.Recording.{Recording, size, kindOf, objectOf, classOf, Accepted, wait}
 use Rattle.model.specs.File.{trailerOf, recordBytes, levelCount, levelBytes, recordingBy, recordingOf}
-use Rattle.model.specs.Reading.{fileCheck, readingOf, mostEvents}
+use Rattle.model.specs.Reading.{fileCheck, readingOf, mostSemaphores, mostEvents}
 use Rattle.model.specs.Passes.{budgetOf}
-use Rattle.model.proofs.Tests.{le-leb}
+use Rattle.model.proofs.Tests.{cases, le-leb}
 use Rattle.model.proofs.Accept.{task-inside, object-inside}
 use Rattle.model.proofs.LastEvent.{none-after-join}
 use Rattle.model.proofs.Files.{sound, bytes-length, size-records}
@@ -77,6 +78,15 @@ module _ (f : List ℕ) (h : Trailer) (q : readingOf f ≡ Reading.Accepted h) w
           tasks = omega (arith, t, r .few-tasks);
           cells = omega (arith, d, r .few-cells);
         }
+
+    -- a start byte for each semaphore at most
+    pub few-levels : length v ≤ mostSemaphores
+    unfolding levelBytes levelCount
+    few-levels =
+        let k : h .counts .semaphores ≡ trailerOf f .counts .semaphores = ap (λ (x : Trailer). x .counts .semaphores) trailer in
+        let n : length v ≤ levelCount (h .counts) = omega (arith, ap length g, length-take (levelCount (h .counts)) (drop (h .start + 4 * h .records) f)) in
+        cases (eqb (h .counts .edition) 1) (λ t. let m : length v ≤ 0 = rw t at n in omega arith)
+        (λ t. let m : length v ≤ h .counts .semaphores = rw t at n in omega (arith, k, sound f passed .range .few-semaphores))
 
     -- by these records, the budget of a run that settles is the recording's
     pub the-budget : budgetIn s ≡ budgetOf (recordingOf f)

@@ -1,3 +1,4 @@
 pub mod Parts
 pub mod Accepted
 pub mod Filled
+pub mod Questions

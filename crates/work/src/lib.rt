@@ -4,17 +4,20 @@
 ghost use mathlib.Core.Path.{_≡_};
 ghost use mathlib.Core.List.{[]};
 ghost use Prim.Native.Nat.{_≤_};
+ghost use Rattle.model.specs.Refusals.{after};
 ghost use Rattle.model.specs.File.{recordingBy, eventsOf};
 ghost use Rattle.model.specs.Passes.{passesMade, isSettled};
 ghost use Rattle.model.specs.Pairs.{entries};
 ghost use Rattle.model.specs.Analysing.{workFits, filled};
-ghost use Rattle.model.specs.Question.{relationBy};
-ghost use Rattle.passes.specs.Lent.{Numbered};
+ghost use Rattle.model.specs.Question.{relationBy, twoEvents, askedCheck};
+ghost use Rattle.passes.specs.Lent.{vectorsIn, Fitting, Numbered};
 ghost use Rattle.pairs.specs.Lent.{Width, WrittenList};
 ghost use Rattle.events.specs.Kept.{Positions};
-ghost use Rattle.work.specs.Lent.{Ready, numbers, Roomy, inWork, budgetIn};
+ghost use Rattle.work.specs.Lent.{Ready, numbers, Roomy, recordedIn, inWork, budgetIn};
+use model::Check;
 use model::Counts;
 use model::MOST_EVENTS;
+use model::Refusal;
 use model::Relation;
 use pairs::Listed;
 
@@ -45,6 +48,15 @@ pub fn work_fits(records: &[u8], counts: Counts, work: &[u16]) -> bool
     ensures { λ r. ⌜ r ≡ workFits (recordingBy (now (records .entry)) counts []) (now (work .entry)) ⌝ }
 {
     2 * numbers(records, counts) <= work.len()
+}
+
+// Whether a and b are two different events of these records.
+fn two_events(records: &[u8], counts: Counts, a: usize, b: usize) -> bool
+    requires { ⌜ Ready (now records) counts ⌝ }
+    ensures { λ r. ⌜ r ≡ twoEvents (recordingBy (now (records .entry)) counts []) a b ⌝ }
+{
+    let n = records.len() / 4;
+    (a < n) & (b < n) & (a != b)
 }
 
 // Fills the work numbers: the safe vectors of a run with this budget, then the recorded vectors.
@@ -80,6 +92,41 @@ pub fn fill(
         &mut work[half..],
     );
     made
+}
+
+// The checks of a question about events a and b, 11 and then 9. Where they pass, the work numbers are filled.
+pub fn fill_asked(
+    records: &[u8],
+    counts: Counts,
+    levels: &[u8],
+    positions: &[u16; MOST_EVENTS],
+    a: usize,
+    b: usize,
+    budget: u32,
+    work: &mut [u16],
+) -> Check
+    requires { ⌜ Ready (now records) counts × Positions (eventsOf (now records)) (now positions) ⌝ }
+    ensures { λ r. ⌜ r ≡ askedCheck (recordingBy (now (records .entry)) counts (now (levels .entry))) a b (now (work .entry)) ⌝ }
+    ensures { λ r. ⌜ now (work .exit) ≡ after r (λ _. filled (recordingBy (now (records .entry)) counts (now (levels .entry))) budget (now (work .entry))) (now (work .entry)) ⌝ }
+{
+    if !two_events(records, counts, a, b) {
+        return Check::Failed(Refusal::Event);
+    }
+    if !work_fits(records, counts, work) {
+        return Check::Failed(Refusal::Work);
+    }
+    fill(records, counts, levels, positions, budget, work);
+    Check::Passed
+}
+
+// The recorded vectors in the work numbers, as numbers.
+pub fn recorded_part<'a>(records: &[u8], counts: Counts, work: &'a [u16]) -> &'a [u16]
+    requires { ⌜ Ready (now records) counts × Roomy (now records) counts (now work) ⌝ }
+    ensures { λ r. ⌜ (vectorsIn (now (records .entry)) counts (now r) ≡ recordedIn (now (records .entry)) counts (now (work .entry))) × Fitting (now (records .entry)) counts (now r) ⌝ }
+{
+    let half = numbers(records, counts);
+    let stop = 2 * half;
+    &work[half..stop]
 }
 
 // Lists the race pairs by the vectors in the work numbers, where the list has room for `width` numbers an entry.

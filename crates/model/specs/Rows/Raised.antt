@@ -8,7 +8,7 @@ use Rattle.model.specs.File.{recordingOf}
 use Rattle.model.specs.Vectors.{Vectors}
 use Rattle.model.specs.Passes.{safeVectors, passesMade, isSettled}
 use Rattle.model.specs.Recorded.{recorded}
-use Rattle.model.specs.Rows.Starred.{of, W, S, P, Fork, Join, file, D, G}
+use Rattle.model.specs.Rows.Starred.{of, S, P, Fork, Join, file, D, G}
 
 -- the vector of an event, with 2 tasks and with 3
 abbrev pub two : ℕ → ℕ → List ℕ

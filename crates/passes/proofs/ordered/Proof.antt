@@ -1,55 +1,12 @@
--- ordered meets its contract: the number read is that of b for a's task.
--- Assumes nothing.
-use mathlib.Core.Path.{sym, ap, _∙_}
-use Prim.Native.Nat.{_<_}
-use native.Mathlib.Omega.{arith}
-use borrow.Author.Needs.{needs}
-use lib.ListN.{length}
-use Rattle.model.specs.declared.Event.{Event}
-use Rattle.model.specs.File.{eventsOf}
-use Rattle.model.specs.Vectors.{number}
-use Rattle.vectors.proofs.Chunks.{number-chunks}
-use Rattle.passes.specs.Lent.{vectorsIn}
-use Rattle.passes.proofs.Tests.{in-rows, ordered-self, ordered-by}
+-- ordered meets its contract: another event is ordered before b where it is at or before it. Assumes nothing.
+use Rattle.passes.proofs.Tests.{ordered-self, ordered-other}
 use Rattle.passes.proofs.ordered.Statement.{statement}
 use Rattle.passes.proofs.ordered.Tie as tie
-
-returns : tie.Need-returns
-returns c = ordered-self _ _ _ _ (c .if1 .taken)
-
--- the task of a
-the-task : (c : tie.After-event-at) → c .event-at .result .task < c .before .before .before .before .before .args .counts .tasks
-the-task c =
-    let s = c .before .before .before .before .before in
-    let e = ap (λ (v : Event). v .task) (c .event-at .ensures) in
-    omega (arith, s .pre .0 .0 .records .named (s .args .a) (s .pre .1 .0))
-
-number-requires : tie.Need-number-requires
-number-requires c κs =
-    let s = c .before .before .before .before .before .before .before .before in
-    in-rows (s .args .v .now) (length (eventsOf (s .args .records .now))) (s .args .counts .tasks) (s .args .b) (c .before .before .before .event-at .result .task)
-    (s .pre .0 .1) (s .pre .1 .1) (the-task (c .before .before .before))
-
-returns-2 : tie.Need-returns-2
-returns-2 c =
-    let s = c .before .before .before .before .before .before .before .before .before in
-    let k = c .before .before .before .before in
-    let l = eventsOf (s .args .records .now) in
-    let X = vectorsIn (s .args .records .now) (s .args .counts) (s .args .v .now) in
-    ordered-by l X (s .args .a) (s .args .b) _ (c .number .result) (k .before .if1 .left) (s .pre .0 .0 .kept .placed (s .args .a) (s .pre .1 .0))
-    (c .number .ensures
-    ∙ sym (number-chunks (length l) (s .args .counts .tasks) (s .args .v .now) (s .args .b) (k .event-at .result .task) (s .pre .0 .1) (the-task k))
-    ∙ ap (λ (v : Event). number X (s .args .b) (v .task)) (k .event-at .ensures))
 
 pub ordered-spec : {M : Type 1} → statement M
 ordered-spec =
     tie.close
     (tie.spec
-    returns
-    (λ c κs. omega arith)
-    (λ c. search needs)
-    (λ c. search needs)
-    (λ c. search needs)
-    (λ c. search needs)
-    number-requires
-    returns-2)
+    (λ c. ordered-self _ _ _ _ (c .if1 .taken))
+    (λ c κs. c .before .before .before .before .pre)
+    (λ c. ordered-other _ _ _ _ (c .before .if1 .left) (c .at-or-before .ensures)))
