@@ -6,7 +6,7 @@ use native.Mathlib.Nat.{le-trans, le-refl, lt-of-lt-of-le}
 use native.Mathlib.Omega.{arith}
 use Rattle.second.specs.declared.Held.{Held}
 use Rattle.second.specs.declared.scan.Trailer.{Trailer}
-use Rattle.second.specs.Answers.{Refused, TrailerOf, TrailerFor, Misfit, HeldTogether}
+use Rattle.second.specs.Answers.{Refused, TrailerOf, TrailerFor, QuestionFault, Misfit, HeldTogether}
 
 -- a trailer whose records and start bytes meet the length
 pub file-trailer : {start n starts size : ℕ} {h : Trailer} → TrailerOf start n starts h → start + 4 * n + starts + 16 ≡ size → TrailerFor size h
@@ -35,6 +35,16 @@ wider r p q =
       fault = λ l m. lt-of-lt-of-le (r .fault l m) q;
       early = r .early;
       late = r .late;
+    }
+
+-- a question that is not refused has both events
+pub unrefused : {a b number at : ℕ} → QuestionFault a b number at → number ≡ 0 → QuestionFault a b 0 0
+unrefused q e =
+    record {
+      refusal = record { most = omega arith; fault = λ l m. absurd (omega arith); early = λ _. refl; late = λ l. refl };
+      noList = λ p. omega arith;
+      events = λ _. q .events e;
+      different = λ _. q .different e;
     }
 
 -- two recordings that are refused before any pass: no list was asked for

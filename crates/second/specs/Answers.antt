@@ -190,3 +190,18 @@ pub record Unheld (o : Held) (v w l v′ w′ l′ : List ℕ) : Type 0 where
   pub first : v′ ≡ v
   pub second : w′ ≡ w
   pub list : l′ ≡ l
+
+-- the recording of a file of so many bytes with an event brought forward, with room for so many bytes: 15, or 12, or its length
+pub record BroughtForward (size room : ℕ) (s : Sent) : Type 0 where
+  pub refusal : Refused 15 1024 (s .refusal) (s .«record»)
+  pub least : 1 ≤ s .refusal → 12 ≤ s .refusal
+  pub late : 12 < s .refusal → s .refusal ≡ 15
+  pub some : s .refusal ≡ 0 → 16 ≤ s .length
+  pub most : s .length ≤ size
+  pub fits : s .length ≤ room
+  pub out : s .refusal ≡ 12 → room < size
+
+-- an order that shows event a of such a file earlier than b: refused as a question about them, or else it passed as one
+pub record Reversed (size room a b : ℕ) (s : Sent) : Type 0 where
+  pub refused : 1 ≤ s .refusal → s .refusal ≤ 11 → QuestionFault a b (s .refusal) (s .«record»)
+  pub passed : (1 ≤ s .refusal → 11 < s .refusal) → QuestionFault a b 0 0 × BroughtForward size room s

@@ -20,6 +20,9 @@ use crate::memory::spot;
 use crate::memory::up;
 use crate::vectors;
 
+// A budget with which every recording settles.
+const MOST_PASSES: u32 = 4294967295;
+
 // ---- whether they are the same work
 
 // The event of a task at a position, plus 1; 0 where there is none.
@@ -170,18 +173,19 @@ fn put_rows(rows: &[u16], n: u16, tasks: u16, first: u16, work: &mut [u16]) {
     }
 }
 
-// Fills the vectors of n events once they settle, in rows of sixteen and in the work numbers.
-fn settle(
+// Fills the vectors of n events after so many passes, in rows of sixteen and in the work numbers.
+pub(crate) fn fill(
     events: &[u16],
     links: &[u16],
     starts: &[u16],
     n: u16,
     tasks: u16,
+    budget: u32,
     safe: &mut [u16],
     recorded: &mut [u16],
     work: &mut [u16],
 ) {
-    vectors::run(events, links, starts, n, 4294967295, safe);
+    vectors::run(events, links, starts, n, budget, safe);
     vectors::replay(events, links, n, recorded);
     put_rows(safe, n, tasks, 0, work);
     put_rows(recorded, n, tasks, n, work);
@@ -307,13 +311,24 @@ pub(crate) fn hold(
     let mut recorded = [0u16; 16384];
     let mut other_safe = [0u16; 16384];
     let mut other_recorded = [0u16; 16384];
-    settle(one, links, starts, n, tasks, &mut safe, &mut recorded, work);
-    settle(
+    fill(
+        one,
+        links,
+        starts,
+        n,
+        tasks,
+        MOST_PASSES,
+        &mut safe,
+        &mut recorded,
+        work,
+    );
+    fill(
         other,
         other_links,
         other_starts,
         n,
         tasks,
+        MOST_PASSES,
         &mut other_safe,
         &mut other_recorded,
         other_work,

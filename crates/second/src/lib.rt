@@ -1,8 +1,9 @@
 // A second analyser, for tests: what documents 01 and 02 ask, by another method. One reading fills
 // arrays of state, a wait's signal is found by counting, the k-th least and the list are sorted by
 // counting, the look for a last event goes forward, and so does the look for an event of one recording
-// in another. It is proved safe, with the range of each number that it answers and what a refusal leaves;
-// that the numbers are right is not proved: the trial compares them with the library's.
+// in another; what the recorded run puts before an event is marked going back from it. It is proved
+// safe, with the range of each number that it answers and what a refusal leaves; that the numbers are
+// right is not proved: the trial compares them with the library's.
 ghost use mathlib.Core.Path.{_≡_};
 ghost use Prim.Native.Nat.{_+_, _/_, _≤_, _<_};
 ghost use lib.ListN.{length};
@@ -22,11 +23,13 @@ ghost use Rattle.second.specs.Answers.{
   Looked,
   HeldTogether,
   Unheld,
+  Reversed,
 };
 
 mod both;
 mod listing;
 mod memory;
+mod reverse;
 mod scan;
 mod vectors;
 mod writing;
@@ -251,7 +254,7 @@ fn ask_events(
 // The refusal of a reading, or else 11, or else 9.
 fn question_fault(r: Reading, a: usize, b: usize, room: usize) -> scan::Fault
     requires { ⌜ (r .events ≤ 1024) × Refused 8 1024 (r .refusal) (r .«record») ⌝ }
-    ensures { λ f. ⌜ QuestionFault a b (f .number) (f .«record») ⌝ }
+    ensures { λ f. ⌜ QuestionFault a b (f .number) (f .«record») × (f .number ≡ 0 → r .refusal ≡ 0) ⌝ }
 {
     if r.refusal != 0 {
         return scan::Fault {
@@ -469,4 +472,59 @@ pub fn together(
         second_work,
         list,
     )
+}
+
+// Fills the work numbers of n events as after analysing with budget 0.
+fn fill_unraised(
+    events: &[u16],
+    links: &[u16],
+    starts: &[u16],
+    n: u16,
+    tasks: u16,
+    work: &mut [u16],
+) {
+    let mut safe = [0u16; 16384];
+    let mut recorded = [0u16; 16384];
+    both::fill(
+        events,
+        links,
+        starts,
+        n,
+        tasks,
+        0,
+        &mut safe,
+        &mut recorded,
+        work,
+    );
+}
+
+// Writes a recording that shows the chosen event earlier than the other, to out. A refusal leaves out as
+// it came, and one by the file, 11 or 9 the work numbers too.
+pub fn write_reversed(
+    file: &[u8],
+    chosen: usize,
+    other: usize,
+    work: &mut [u16],
+    out: &mut [u8],
+) -> Sent
+    ensures { λ s. ⌜ Reversed (length (now (file .entry))) (length (now (out .entry))) chosen other s ⌝ }
+    ensures { λ s. ⌜ (1 ≤ s .refusal → Unsent s (now (out .entry)) (now (out .exit))) ⌝ }
+    ensures { λ s. ⌜ (1 ≤ s .refusal → s .refusal ≤ 11 → now (work .exit) ≡ now (work .entry)) ⌝ }
+{
+    let mut events = [0u16; 4096];
+    let mut links = [0u16; 4096];
+    let mut starts = [0u16; 64];
+    let r = load(file, &mut events, &mut links, &mut starts);
+    let fault = question_fault(r, chosen, other, work.len());
+    if fault.number != 0 {
+        return Sent {
+            refusal: fault.number,
+            record: fault.record,
+            length: 0,
+        };
+    }
+    let x = chosen as u16;
+    let y = other as u16;
+    fill_unraised(&events, &links, &starts, r.events, r.tasks, work);
+    reverse::write_forward(file, r, &links, x, y, out)
 }

@@ -45,7 +45,7 @@ fn theirs(one: &[u8], two: &[u8], v: &mut [u16], w: &mut [u16], list: &mut [u16]
 }
 
 // Both left the same numbers, and marks from a place on.
-fn same_memory(a: &[u16], b: &[u16], used: usize) -> bool {
+pub(crate) fn same_memory(a: &[u16], b: &[u16], used: usize) -> bool {
     same_numbers(a, b, a.len()) && all_marks(a, used, MARK)
 }
 

@@ -65,7 +65,7 @@ fn enough(n: u32) -> u32 {
 }
 
 // A recording of the shape, damaged where that is asked; its length.
-fn draw_file(seed: &mut u32, s: Shape, damaged: bool, file: &mut [u8]) -> u32 {
+pub(crate) fn draw_file(seed: &mut u32, s: Shape, damaged: bool, file: &mut [u8]) -> u32 {
     let length = make::make(seed, s, file);
     if damaged {
         return make::damage(seed, s, file, length);

@@ -1,7 +1,7 @@
 // The trial: worked recordings, edge files, jobs recorded in several orders, two recordings held together,
-// looks for last events and generated recordings, with the library and the second analyser compared in
-// everything. Each group prints how many comparisons it made, and each file at which the two differ. Groups
-// are of edition 1 unless their name says otherwise.
+// pairs shown reversed, looks for last events and generated recordings, with the library and the second
+// analyser compared in everything. Each group prints how many comparisons it made, and each file at which
+// the two differ. Groups are of edition 1 unless their name says otherwise.
 mod both;
 mod bytes;
 mod compare;
@@ -13,7 +13,9 @@ mod looks;
 mod make;
 mod ordered;
 mod refusals;
+mod shown;
 mod tries;
+mod turned;
 mod twice;
 mod worked;
 mod writing;
@@ -119,6 +121,22 @@ fn try_two() {
     jobs::try_changed(b"two recordings, middling, changed", 2059, 400, middling(1));
 }
 
+// Orders that show a pair reversed.
+fn try_reversed() {
+    turned::try_worked();
+    turned::try_refusals();
+    turned::try_all_pairs(b"reversed, small", 2061, 1200, small(1));
+    turned::try_all_pairs(b"reversed, small, edition 2", 2062, 1200, small(2));
+    turned::try_all_pairs(b"reversed, busy", 2063, 100, busy(1));
+    turned::try_all_pairs(b"reversed, busy, edition 2", 2064, 100, busy(2));
+    turned::try_damaged(b"reversed, damaged", 2065, 6000, small(1));
+    turned::try_damaged(b"reversed, damaged, edition 2", 2066, 6000, small(2));
+    turned::try_some_pairs(b"reversed, middling", 2067, 300, middling(1));
+    turned::try_some_pairs(b"reversed, middling, edition 2", 2068, 300, middling(2));
+    turned::try_full(b"reversed, 1,024 events", 2069, 1);
+    turned::try_full(b"reversed, 1,024 events, edition 2", 2072, 2);
+}
+
 // Looks for the last event of a task.
 fn try_looks() {
     looks::try_parts_of_five();
@@ -160,6 +178,7 @@ fn main() {
     ordered::try_shuffled();
     ordered::try_wide();
     try_two();
+    try_reversed();
     try_looks();
     try_edition_one();
     try_edition_two();

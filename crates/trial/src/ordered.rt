@@ -40,7 +40,7 @@ fn name_event(records: &[u8], e: u16, counts: &mut [u16], names: &mut [u16]) {
 }
 
 // The names of 1,024 events, in one number each.
-fn name_events(records: &[u8], counts: &mut [u16], names: &mut [u16]) {
+pub(crate) fn name_events(records: &[u8], counts: &mut [u16], names: &mut [u16]) {
     for e in 0..1024u16 {
         name_event(records, e, counts, names);
     }

@@ -59,7 +59,7 @@ fn try_files(start: u32, one: &[u8], two: &[u8], o: Held, entries: &[u8]) -> u32
 // ---- worked recordings
 
 // A to J of document 01; its length.
-fn put_worked(file: &mut [u8], name: u8) -> u32 {
+pub(crate) fn put_worked(file: &mut [u8], name: u8) -> u32 {
     let two = make::empty_shape(2, 1, 1, 1);
     let three = make::empty_shape(3, 1, 1, 1);
     match name {

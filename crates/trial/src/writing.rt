@@ -12,7 +12,7 @@ use crate::compare::some_more;
 use model::Counts;
 use model::Written;
 
-const MARK: u8 = 171;
+pub(crate) const MARK: u8 = 171;
 
 // Whether both wrote the same, and the length of what they wrote.
 struct Outcome {
@@ -20,7 +20,7 @@ struct Outcome {
     length: usize,
 }
 
-fn same_written(written: Written, o: second::Sent) -> bool {
+pub(crate) fn same_written(written: Written, o: second::Sent) -> bool {
     match written {
         Written::Length(n) => o.refusal == 0 && n == o.length,
         Written::Refused(r) => same_refusal(r, o.refusal, o.record),
@@ -80,7 +80,7 @@ fn part_writing(records: &[u8], c: Counts, starts: &[u8], room: usize, out: &mut
     lent_writing(records, c, starts, &mut out[0..room])
 }
 
-fn same_counts(r: second::Reading, c: Counts) -> bool {
+pub(crate) fn same_counts(r: second::Reading, c: Counts) -> bool {
     r.tasks == c.tasks
         && r.semaphores == c.semaphores
         && r.cells == c.cells
@@ -145,7 +145,7 @@ pub(crate) fn counts_agree(file: &[u8], start: usize, size: usize, c: Counts) ->
     split_agrees(&file[start..end - 16], size, c)
 }
 
-fn counts_of(r: second::Reading) -> Counts {
+pub(crate) fn counts_of(r: second::Reading) -> Counts {
     Counts {
         tasks: r.tasks,
         semaphores: r.semaphores,

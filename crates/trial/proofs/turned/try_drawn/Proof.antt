@@ -1,0 +1,34 @@
+-- `trial::turned::try_drawn` is safe and ends. Nothing has to hold from turn to turn. The measure is what is left of the range.
+-- Assumes nothing.
+use Prim.Native.Nat.{_-_}
+use native.Mathlib.Omega.{arith}
+use Rattle.trial.proofs.turned.try_drawn.Statement.{statement}
+use Rattle.trial.proofs.turned.try_drawn.Tie as tie
+
+abbrev Inv-loop : tie.InvT-loop
+Inv-loop seed₀ file pairs most t₀ i₀ seed t i = Unit {0}
+
+abbrev μ-loop : tie.MeasureT-loop
+μ-loop seed₀ file pairs most t₀ i₀ seed t i = pairs - i
+
+pub try-drawn-spec : {M : Type 1} → statement M
+try-drawn-spec =
+    tie.close
+    (tie.spec
+    Inv-loop
+    μ-loop
+    (λ c κs. tt)
+    (λ c. omega arith)
+    (λ c κs. tt)
+    (λ c. tt)
+    (λ c κs. tt)
+    (λ c. omega arith)
+    (λ c κs. tt)
+    (λ c. omega arith)
+    (λ c κs. tt)
+    (λ c κs. tt)
+    (λ c κs. tt)
+    (λ c. omega arith)
+    (λ c. omega arith)
+    (λ c. tt)
+    (λ c. tt))

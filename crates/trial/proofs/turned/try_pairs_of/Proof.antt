@@ -1,0 +1,29 @@
+-- `trial::turned::try_pairs_of` is safe and ends. Nothing has to hold from turn to turn. The measure is what is left of the range.
+-- Assumes nothing.
+use Prim.Native.Nat.{_-_}
+use native.Mathlib.Omega.{arith}
+use Rattle.trial.proofs.turned.try_pairs_of.Statement.{statement}
+use Rattle.trial.proofs.turned.try_pairs_of.Tie as tie
+
+abbrev Inv-loop : tie.InvT-loop
+Inv-loop file x most t₀ y₀ t y = Unit {0}
+
+abbrev μ-loop : tie.MeasureT-loop
+μ-loop file x most t₀ y₀ t y = most - y
+
+pub try-pairs-of-spec : {M : Type 1} → statement M
+try-pairs-of-spec =
+    tie.close
+    (tie.spec
+    Inv-loop
+    μ-loop
+    (λ c. tt)
+    (λ c. omega arith)
+    (λ c κs. tt)
+    (λ c. omega arith)
+    (λ c κs. tt)
+    (λ c κs. tt)
+    (λ c. omega arith)
+    (λ c. omega arith)
+    (λ c. tt)
+    (λ c. tt))
