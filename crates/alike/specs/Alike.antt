@@ -2,13 +2,23 @@
 -- Assumes nothing.
 use Prim.Native.Nat.{ℕ, _*_, _/_, _≤_, _<_}
 use mathlib.Core.Path.{_≡_}
+use mathlib.Core.Bool.{Bool, _&&_}
 use mathlib.Core.List.{List}
 use lib.ListN.{length, getD}
 use Rattle.model.specs.declared.Event.{Event}
-use Rattle.model.specs.Recording.{eventIn}
+use Rattle.model.specs.declared.Counts.{Counts}
+use Rattle.model.specs.Recording.{semaphoresOf, flagsOf, eventIn}
+use Rattle.model.specs.File.{levelsBy}
 use Rattle.model.specs.Reading.{mostEvents}
 use Rattle.model.specs.Vectors.{position}
+use Rattle.model.specs.Together.{sameCounts, sameLevels}
 use Rattle.events.specs.Chains.{byTask, Chained}
+
+-- the same counts c and d, and start counts and post counts of the level bytes b and g
+unfoldable pub sameResources : Counts → List ℕ → Counts → List ℕ → Bool
+sameResources c b d g =
+    sameCounts c d && sameLevels (levelsBy c b .starts) (levelsBy d g .starts) (semaphoresOf c)
+    && sameLevels (levelsBy c b .posts) (levelsBy d g .posts) (flagsOf c)
 
 -- at most 1,024 records, and their tasks' chains
 pub record TaskChains (s chain : List ℕ) : Type 0 where

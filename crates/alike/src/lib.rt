@@ -2,11 +2,11 @@
 ghost use mathlib.Core.Path.{_≡_};
 ghost use Prim.Native.Nat.{ℕ, _*_, _≤_, _<_};
 ghost use lib.ListN.{length};
-ghost use Rattle.model.specs.File.{eventsOf, levelsBy, recordingBy};
+ghost use Rattle.model.specs.File.{eventsOf, recordingBy};
 ghost use Rattle.model.specs.Reading.{mostTasks, mostEvents};
-ghost use Rattle.model.specs.Together.{sameCounts, sameStarts, ownRecords, sameRecord, recordsAlike, tasksAlike, workAlike};
+ghost use Rattle.model.specs.Together.{sameCounts, sameLevels, ownRecords, sameRecord, recordsAlike, tasksAlike, workAlike};
 ghost use Rattle.events.specs.Kept.{Tasked};
-ghost use Rattle.alike.specs.Alike.{TaskChains, Counterparts};
+ghost use Rattle.alike.specs.Alike.{sameResources, TaskChains, Counterparts};
 use events::CHAINS;
 use model::Check;
 use model::Counts;
@@ -18,21 +18,46 @@ use model::Refusal;
 fn same_counts(c: Counts, d: Counts) -> bool
     ensures { λ r. ⌜ r ≡ sameCounts c d ⌝ }
 {
-    (c.tasks == d.tasks) & (c.semaphores == d.semaphores) & (c.cells == d.cells)
+    let semaphores = events::semaphores(c) == events::semaphores(d);
+    let flags = events::flags(c) == events::flags(d);
+    (c.tasks == d.tasks) & semaphores & flags & (c.cells == d.cells)
 }
 
-// Whether the first n semaphores have the same start counts.
-fn same_starts(first: &[u8], second: &[u8], n: u16) -> bool
-    ensures { λ r. ⌜ r ≡ sameStarts (levelsBy (now (first .entry))) (levelsBy (now (second .entry))) n ⌝ }
+// Whether the first n level bytes, start bytes or post bytes, are the same.
+fn same_levels(first: &[u8], second: &[u8], n: u16) -> bool
+    ensures { λ r. ⌜ r ≡ sameLevels (now (first .entry)) (now (second .entry)) n ⌝ }
 {
-    let mut s = n;
-    while 0 < s {
-        s -= 1;
-        if events::start_of(first, s) != events::start_of(second, s) {
+    let mut i = n;
+    while 0 < i {
+        i -= 1;
+        if events::level_at(first, i) != events::level_at(second, i) {
             return false;
         }
     }
     true
+}
+
+// Whether two recordings have the same counts, start counts and post counts.
+fn same_resources(
+    first_counts: Counts,
+    first_levels: &[u8],
+    second_counts: Counts,
+    second_levels: &[u8],
+) -> bool
+    ensures { λ r. ⌜ r ≡ sameResources «first_counts» (now («first_levels» .entry)) «second_counts» (now («second_levels» .entry)) ⌝ }
+{
+    let counts = same_counts(first_counts, second_counts);
+    let starts = same_levels(
+        events::start_bytes(first_levels, first_counts),
+        events::start_bytes(second_levels, second_counts),
+        events::semaphores(first_counts),
+    );
+    let posts = same_levels(
+        events::post_bytes(first_levels, first_counts),
+        events::post_bytes(second_levels, second_counts),
+        events::flags(first_counts),
+    );
+    counts & starts & posts
 }
 
 // Whether the records have the same kind and object.
@@ -105,13 +130,7 @@ pub fn work_alike(
     ensures { λ r. ⌜ r ≡ workAlike (recordingBy (now (first .entry)) «first_counts» (now («first_levels» .entry)))
         (recordingBy (now (second .entry)) «second_counts» (now («second_levels» .entry))) ⌝ }
 {
-    if !same_counts(first_counts, second_counts) {
-        return Check::Failed(Refusal::Differ {
-            task: 0,
-            position: 0,
-        });
-    }
-    if !same_starts(first_levels, second_levels, first_counts.semaphores) {
+    if !same_resources(first_counts, first_levels, second_counts, second_levels) {
         return Check::Failed(Refusal::Differ {
             task: 0,
             position: 0,

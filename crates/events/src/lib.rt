@@ -1,13 +1,13 @@
 // The records as lent bytes: an event's fields, searches over the first records, the look back over a part for a task's last
 // record, and what one look at all records keeps of each: positions, the event before, chains of the events on one object,
-// and the task order. And the level bytes: start counts.
+// and the task order. And the counts: semaphores and flags, and the level bytes, which are start counts and post counts.
 ghost use mathlib.Core.Path.{_≡_};
 ghost use Prim.Native.Nat.{_+_, _*_, _/_, _≤_, _<_};
 ghost use lib.ListN.{length, getD, take};
 ghost use lib.Seq.{sets};
 ghost use Rattle.model.specs.Numbers.{lastOf};
-ghost use Rattle.model.specs.Recording.{startOf, eventIn, ofTask, isOn};
-ghost use Rattle.model.specs.File.{u16At, eventsOf, recordBytes, levelCount, levelBytes, levelsBy};
+ghost use Rattle.model.specs.Recording.{startOf, postOf, semaphoresOf, flagsOf, eventIn, ofTask, isOn};
+ghost use Rattle.model.specs.File.{u16At, eventsOf, recordBytes, startCount, levelCount, levelBytes, levelsBy};
 ghost use Rattle.model.specs.Reading.{mostTasks, mostCells, mostEvents};
 ghost use Rattle.model.specs.Passes.{lastEvent, beforeOrFork};
 ghost use Rattle.model.specs.LastEvent.{recordsRead};
@@ -20,6 +20,7 @@ use model::FORK;
 use model::Found;
 use model::MOST_EVENTS;
 use model::Trailer;
+use model::WITH_FLAGS;
 
 // The number of two bytes, little-endian.
 pub fn u16_at(s: &[u8], i: usize) -> u16
@@ -39,14 +40,41 @@ pub fn records_of(file: &[u8], trailer: Trailer) -> &[u8]
     &file[start..stop]
 }
 
-// How many level bytes a file with these counts has between its records and its trailer.
-pub fn level_count(counts: Counts) -> usize
-    ensures { λ r. ⌜ (r ≡ levelCount counts) × (r < 65536) ⌝ }
+// How many semaphores a recording with these counts has: with flags, the low byte of the field.
+pub fn semaphores(counts: Counts) -> u16
+    ensures { λ r. ⌜ r ≡ semaphoresOf counts ⌝ }
+{
+    if counts.edition == WITH_FLAGS {
+        return counts.semaphores % 256;
+    }
+    counts.semaphores
+}
+
+// How many flags: the high byte.
+pub fn flags(counts: Counts) -> u16
+    ensures { λ r. ⌜ r ≡ flagsOf counts ⌝ }
+{
+    if counts.edition == WITH_FLAGS {
+        return counts.semaphores / 256;
+    }
+    0
+}
+
+// How many start bytes a file with these counts has.
+pub fn start_count(counts: Counts) -> usize
+    ensures { λ r. ⌜ (r ≡ startCount counts) × (r < 65536) ⌝ }
 {
     if counts.edition == 1 {
         return 0;
     }
-    counts.semaphores as usize
+    semaphores(counts) as usize
+}
+
+// How many level bytes it has between its records and its trailer.
+pub fn level_count(counts: Counts) -> usize
+    ensures { λ r. ⌜ (r ≡ levelCount counts) × (r < 131072) ⌝ }
+{
+    start_count(counts) + (flags(counts) as usize)
 }
 
 // The level bytes of a file with this trailer.
@@ -59,15 +87,51 @@ pub fn levels_of(file: &[u8], trailer: Trailer) -> &[u8]
     &file[start..stop]
 }
 
-// The start count of semaphore s; 0 past the end of the levels, as in edition 1.
-pub fn start_of(levels: &[u8], s: u16) -> u16
-    ensures { λ r. ⌜ r ≡ startOf (levelsBy (now (levels .entry))) s ⌝ }
+// The start bytes among the level bytes.
+pub fn start_bytes(levels: &[u8], counts: Counts) -> &[u8]
+    ensures { λ r. ⌜ now r ≡ levelsBy counts (now (levels .entry)) .starts ⌝ }
 {
-    let i = s as usize;
-    if i < levels.len() {
-        return levels[i] as u16;
+    let n = start_count(counts);
+    if n < levels.len() {
+        return &levels[..n];
+    }
+    levels
+}
+
+// The post bytes, which are the others.
+pub fn post_bytes(levels: &[u8], counts: Counts) -> &[u8]
+    ensures { λ r. ⌜ now r ≡ levelsBy counts (now (levels .entry)) .posts ⌝ }
+{
+    let n = start_count(counts);
+    if n < levels.len() {
+        return &levels[n..];
+    }
+    &levels[..0]
+}
+
+// Byte i of these; 0 where none is given.
+pub fn level_at(bytes: &[u8], i: u16) -> u16
+    ensures { λ r. ⌜ r ≡ getD (now (bytes .entry)) i 0 ⌝ }
+{
+    let at = i as usize;
+    if at < bytes.len() {
+        return bytes[at] as u16;
     }
     0 // no byte is given
+}
+
+// The start count of semaphore s.
+pub fn start_of(levels: &[u8], counts: Counts, s: u16) -> u16
+    ensures { λ r. ⌜ r ≡ startOf (levelsBy counts (now (levels .entry))) s ⌝ }
+{
+    level_at(start_bytes(levels, counts), s)
+}
+
+// The post count of flag g.
+pub fn post_of(levels: &[u8], counts: Counts, g: u16) -> u16
+    ensures { λ r. ⌜ r ≡ postOf (levelsBy counts (now (levels .entry))) g ⌝ }
+{
+    level_at(post_bytes(levels, counts), g)
 }
 
 // Event e, which is record e.

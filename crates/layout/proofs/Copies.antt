@@ -28,13 +28,13 @@ module _ (s old out : List ℕ) (n : ℕ) (l : length s ≡ n) (p : out ≡ s ++
   behind : (t last : List ℕ) (m : ℕ) → n ≤ m → last ≡ take n out ++ t ++ drop m out → last ≡ s ++ t ++ drop m old
   behind t last m h q = q ∙ rw (front, beyond m h)
 
-  -- the start bytes and the trailer written behind s
+  -- the level bytes and the trailer written behind s
   pub filed : (c : Counts) (b last : List ℕ) → last ≡ take n out ++ b ++ trailerBytes (n / 4) c ++ drop (n + length b + 16) out
       → last ≡ fileOf s c b ++ drop (n + length b + 16) old
   unfolding fileOf
   filed c b last q = q ∙ rw (front, beyond (n + length b + 16) (omega arith), l)
 
--- ---- the trailer copied behind start bytes that stand behind n bytes
+-- ---- the trailer copied behind level bytes that stand behind n bytes
 
 pub ended : (old b out t last : List ℕ) (n : ℕ) (c : Counts) → n ≤ length old → out ≡ take n old ++ b ++ drop (n + length b) old
     → t ≡ trailerBytes (n / 4) c → last ≡ take (n + length b) out ++ t ++ drop (n + length b + length t) out

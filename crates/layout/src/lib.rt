@@ -1,4 +1,4 @@
-// The bytes of a recording file put into an output: records, start bytes, trailer. The records are lent as they stand, or picked from
+// The bytes of a recording file put into an output: records, level bytes, trailer. The records are lent as they stand, or picked from
 // others in a given order. A crate of its own, since more than one interface crate writes files, and these functions require the room
 // that those have asked for.
 ghost use mathlib.Core.Path.{_≡_};
@@ -36,7 +36,7 @@ fn trailer_bytes(n: usize, counts: Counts) -> [u8; 16]
 }
 
 // Copies the bytes into the output from `at` on.
-fn copy_at(bytes: &[u8], out: &mut [u8], at: usize)
+pub fn copy_at(bytes: &[u8], out: &mut [u8], at: usize)
     requires { ⌜ at + length (now bytes) ≤ length (now out) ⌝ }
     ensures { λ _. ⌜ now (out .exit) ≡ take at (now (out .entry)) ++ now (bytes .entry) ++ drop (at + length (now (bytes .entry))) (now (out .entry)) ⌝ }
 {
@@ -47,26 +47,26 @@ fn copy_at(bytes: &[u8], out: &mut [u8], at: usize)
     }
 }
 
-// Writes the start bytes and the trailer behind n record bytes.
-fn put_end(n: usize, counts: Counts, starts: &[u8], out: &mut [u8])
-    requires { ⌜ n + length (now starts) + 16 ≤ length (now out) ⌝ }
-    ensures { λ _. ⌜ now (out .exit) ≡ take n (now (out .entry)) ++ now (starts .entry) ++ trailerBytes (n / 4) counts
-        ++ drop (n + length (now (starts .entry)) + 16) (now (out .entry)) ⌝ }
+// Writes the level bytes and the trailer behind n record bytes.
+fn put_end(n: usize, counts: Counts, levels: &[u8], out: &mut [u8])
+    requires { ⌜ n + length (now levels) + 16 ≤ length (now out) ⌝ }
+    ensures { λ _. ⌜ now (out .exit) ≡ take n (now (out .entry)) ++ now (levels .entry) ++ trailerBytes (n / 4) counts
+        ++ drop (n + length (now (levels .entry)) + 16) (now (out .entry)) ⌝ }
 {
-    let stop = n + starts.len();
-    copy_at(starts, out, n);
+    let stop = n + levels.len();
+    copy_at(levels, out, n);
     let end = trailer_bytes(n / 4, counts);
     copy_at(&end, out, stop);
 }
 
 // Writes the file of these records into the front of the output.
-pub fn put_file(records: &[u8], counts: Counts, starts: &[u8], out: &mut [u8])
-    requires { ⌜ fileLength (now records) (now starts) ≤ length (now out) ⌝ }
-    ensures { λ _. ⌜ now (out .exit) ≡ fileOf (now (records .entry)) counts (now (starts .entry))
-        ++ drop (fileLength (now (records .entry)) (now (starts .entry))) (now (out .entry)) ⌝ }
+pub fn put_file(records: &[u8], counts: Counts, levels: &[u8], out: &mut [u8])
+    requires { ⌜ fileLength (now records) (now levels) ≤ length (now out) ⌝ }
+    ensures { λ _. ⌜ now (out .exit) ≡ fileOf (now (records .entry)) counts (now (levels .entry))
+        ++ drop (fileLength (now (records .entry)) (now (levels .entry))) (now (out .entry)) ⌝ }
 {
     copy_at(records, out, 0);
-    put_end(records.len(), counts, starts, out);
+    put_end(records.len(), counts, levels, out);
 }
 
 // Copies record e into the output as its record i.
@@ -92,11 +92,11 @@ fn put_records(records: &[u8], order: &[u16], out: &mut [u8])
 }
 
 // Writes the file of the records that the order names, in its order, into the front of the output.
-pub fn put_picked(records: &[u8], order: &[u16], counts: Counts, starts: &[u8], out: &mut [u8])
-    requires { ⌜ Picks (now records) (now order) × (4 * length (now order) + length (now starts) + 16 ≤ length (now out)) ⌝ }
-    ensures { λ _. ⌜ now (out .exit) ≡ fileIn (now (records .entry)) (now (order .entry)) counts (now (starts .entry))
-        ++ drop (4 * length (now (order .entry)) + length (now (starts .entry)) + 16) (now (out .entry)) ⌝ }
+pub fn put_picked(records: &[u8], order: &[u16], counts: Counts, levels: &[u8], out: &mut [u8])
+    requires { ⌜ Picks (now records) (now order) × (4 * length (now order) + length (now levels) + 16 ≤ length (now out)) ⌝ }
+    ensures { λ _. ⌜ now (out .exit) ≡ fileIn (now (records .entry)) (now (order .entry)) counts (now (levels .entry))
+        ++ drop (4 * length (now (order .entry)) + length (now (levels .entry)) + 16) (now (out .entry)) ⌝ }
 {
     put_records(records, order, out);
-    put_end(4 * order.len(), counts, starts, out);
+    put_end(4 * order.len(), counts, levels, out);
 }

@@ -1,4 +1,4 @@
--- What acceptance says of each record: its kind is known, its names are, and it obeys the four rules. So much of each gives back
+-- What acceptance says of each record: its kind is known, its names are, and it obeys the rules. So much of each gives back
 -- acceptance.
 -- Assumes nothing.
 use Prim.Native.Nat.{ℕ, zero, suc, _<_}
@@ -9,9 +9,9 @@ use native.Mathlib.Omega.{arith}
 use lib.Dec.{ltb}
 use lib.ListN.{take}
 use Rattle.model.specs.declared.Check.{Check}
-use Rattle.model.specs.Recording.{Recording, size, tasks, event, taskOf, named, namesOf, classOf, lifeKept, waitKept, obeys, recordCheck, firstFault, Accepted}
+use Rattle.model.specs.Recording.{Recording, size, tasks, event, taskOf, named, namesOf, classOf, lifeKept, waitKept, flagKept, obeys, recordCheck, firstFault, Accepted}
 use Rattle.model.specs.Acceptable.{Kept}
-use Rattle.model.proofs.Tests.{both, first, second, last-or-lower, ltb-true}
+use Rattle.model.proofs.Tests.{both, first, second, all-three, last-or-lower, ltb-true}
 use Rattle.model.proofs.Checks.{unless-passed, then-passed}
 
 module _ (E : Recording) where
@@ -32,7 +32,8 @@ module _ (E : Recording) where
         let (name, b) = unless-passed _ _ _ a in
         let (life, c) = unless-passed (lifeKept (take e (E .events)) (event E e)) _ _ b in
         let (wait, d) = unless-passed (waitKept (E .levels) (take e (E .events)) (event E e)) _ _ c in
-        record { kind = kind; names = name; rules = both life wait }
+        let (flag, _) = unless-passed (flagKept (E .levels) (take e (E .events)) (event E e)) _ _ d in
+        record { kind = kind; names = name; rules = both (both life wait) flag }
 
     pub accepted-obeys : (e : ℕ) → e < size E → obeys (E .levels) (take e (E .events)) (event E e) ≡ true
     accepted-obeys e l = kept-at e l .rules
@@ -51,9 +52,10 @@ module _ (E : Recording) where
   record-passes : (e : ℕ) → Kept E e → recordCheck (E .counts) (E .levels) (take e (E .events)) (event E e) ≡ Check.Passed
   unfolding recordCheck obeys
   record-passes e k =
-      let life = first (lifeKept (take e (E .events)) (event E e)) (waitKept (E .levels) (take e (E .events)) (event E e)) (k .rules) in
-      let wait = second (lifeKept (take e (E .events)) (event E e)) (waitKept (E .levels) (take e (E .events)) (event E e)) (k .rules) in
-      rw (k .kind, k .names, life, wait)
+      let before = take e (E .events) in
+      let v = event E e in
+      let (life, wait, flag) = all-three (lifeKept before v) (waitKept (E .levels) before v) (flagKept (E .levels) before v) (k .rules) in
+      rw (k .kind, k .names, life, wait, flag)
 
   no-faults : (n : ℕ) → ((e : ℕ) → e < n → Kept E e) → firstFault E n ≡ Check.Passed
   unfolding firstFault

@@ -32,8 +32,10 @@ same-sym E F s =
     record {
       tasks = sym (s .tasks);
       semaphores = sym (s .semaphores);
+      flags = sym (s .flags);
       cells = sym (s .cells);
       starts = λ n. sym (s .starts n);
+      posts = λ n. sym (s .posts n);
       records = λ t. sym (s .records t);
     }
 
@@ -59,7 +61,7 @@ module _ (E F : Recording) (same : SameWork E F) where
   source-twin e s x y w v (Source.forked k q) =
       Source.forked (v .right) (subst₂ (λ (u r : Event). isFork (u .task) r ≡ true) (w .same) (v .same) q)
   source-twin e s x y w v (Source.join-fork j k q) =
-      Source.join-fork (join-twin e x w j) (v .right) (sym (twin-on (E .events) (F .events) fork e x s y w v) ∙ q)
+      Source.join-fork (join-twin e x w j) (v .right) (sym (twin-on (E .events) (F .events) (λ _. fork) e x s y w v) ∙ q)
   source-twin e s x y w v (Source.join-end j k q) =
       Source.join-end (join-twin e x w j) (v .right) (subst₂ (λ (u r : Event). u .task ≡ r .object) (v .same) (w .same) q)
 

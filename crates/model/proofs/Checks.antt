@@ -21,6 +21,18 @@ pub then-passed : (c : Check) (rest : Unit {0} → Check) → andThen c rest ≡
 then-passed Check.Passed rest h = (refl, h)
 then-passed (Check.Failed r) rest h = failed-passed r h
 
+-- five tests, and then a check, are made in one row
+pub five-then : (a : Bool) (q : Refusal) (b : Bool) (r : Refusal) (c : Bool) (s : Refusal) (d : Bool) (t : Refusal) (e : Bool) (u : Refusal)
+    (rest : Unit {0} → Check)
+    → andThen (unless a q λ _. unless b r λ _. unless c s λ _. unless d t λ _. unless e u λ _. Check.Passed) rest
+    ≡ unless a q λ _. unless b r λ _. unless c s λ _. unless d t λ _. unless e u rest
+five-then false q b r c s d t e u rest = refl
+five-then true q false r c s d t e u rest = refl
+five-then true q true r false s d t e u rest = refl
+five-then true q true r true s false t e u rest = refl
+five-then true q true r true s true t false u rest = refl
+five-then true q true r true s true t true u rest = refl
+
 -- ---- checks made one after another: f says what the first n give, and `step` what each gives
 
 module _ (f step : ℕ → Check) (up : (n : ℕ) → f (suc n) ≡ andThen (f n) λ _. step n) where

@@ -9,20 +9,20 @@ use native.Mathlib.Nat.{le-refl, not-suc-le-zero}
 use native.Mathlib.Omega.{arith}
 use lib.Dec.{leb, ltb, eqb}
 use Rattle.model.specs.declared.Event.{Event}
-use Rattle.model.specs.Numbers.{bit, tally, count, picked}
-use Rattle.model.specs.Recording.{startOf, event, ofTask, isSignal, isWait, isFork, isJoin, notJoined, forkKept, joinKept, waitKept, lifeKept, obeys, Accepted, Recording, size, taskOf, kindOf, objectOf, fork, join, wait}
+use Rattle.model.specs.Numbers.{bit, tally, count, picked, found}
+use Rattle.model.specs.Recording.{startOf, postOf, event, ofTask, isSignal, isWait, isFork, isJoin, isPost, notJoined, forkKept, joinKept, waitKept, flagKept, lifeKept, obeys, Accepted, Recording, size, taskOf, kindOf, objectOf, fork, join, wait, flagWait}
 use Rattle.model.specs.Orders.{place, Precedes, occurrences, Admissible, fileOrder}
 use Rattle.model.specs.Vectors.{atOrBefore, ordered}
 use Rattle.model.specs.Passes.{previous, sources}
-use Rattle.model.specs.Recorded.{matched, recorded}
+use Rattle.model.specs.Recorded.{matched, causes, recorded}
 use Rattle.model.specs.Reversed.{bringForward}
 use Rattle.model.proofs.Tests.{of-not, to-not, both, first, second, and-fails, and-false, implies-by, tests, ltb-true, lt-ltb, eqb-true, eq-eqb, ne-eqb, leb-true, all-three, ltb-false}
-use Rattle.model.proofs.Sum.{tally-zero, tally-has, tally-lt, tally-inject, rank-same, tally-le, tally-split, tally-first}
+use Rattle.model.proofs.Sum.{tally-zero, tally-has, tally-lt, tally-inject, rank-same, tally-le, tally-grow, tally-split, tally-first}
 use Rattle.model.proofs.Picked.{parted-once, parted-first, parted-rises}
 use Rattle.model.proofs.Rules.{sooner, earlier, count-earlier, obeying-by, kind-is, object-is, fork-other, join-other, fork-first, join-last, join-forked, one-fork, one-join}
 use Rattle.model.proofs.Sources.{last-some, last-found, in-found, has-previous, has-fork, has-join-fork, has-join-end, fork-found}
 use Rattle.model.proofs.FileOrder.{file-admissible, file-lower}
-use Rattle.model.proofs.Recorded.{matched-wait, matched-found, matched-lower, up-self, up-own, up-cause}
+use Rattle.model.proofs.Recorded.{matched-wait, matched-found, opened-has, flag-before, causes-lower, up-self, up-own, up-cause}
 
 module _ (E : Recording) (acc : Accepted E) (x : ℕ) (inside : x < size E) where
   abbrev up : ℕ → Bool
@@ -77,11 +77,10 @@ module _ (E : Recording) (acc : Accepted E) (x : ℕ) (inside : x < size E) wher
   keeps-join : (j e : ℕ) → j < size E → e < size E → isJoin (taskOf E e) (event E j) ≡ true → Precedes o e j
   keeps-join j e k l t = keep e j (file-lower E e j l k (join-last E f₀ file j e k l t)) k (join-brings j e k l t)
 
-  keeps-match : (e s : ℕ) → e < size E → matched (E .levels) (E .events) e ≡ Found.At s → Precedes o s e
-  keeps-match e s l q =
-      keep s e (matched-lower E acc e s l q) l (up-cause E acc x e s inside l (Memᴰ·append-right (sources (E .events) e) (in-found q)))
+  keeps-cause : (e s : ℕ) → e < size E → List·Memᴰ s (causes (E .levels) (E .events) e) → Precedes o s e
+  keeps-cause e s l h = keep s e (causes-lower E acc e s l h) l (up-cause E acc x e s inside l h)
 
-  -- ---- the four rules
+  -- ---- the rules
 
   none-before : (q : Event → Bool) (e : ℕ) → ((a : ℕ) → a < size E → q (event E a) ≡ true → ¬ (Precedes o a e)) → eqb (count q (earlier E o e)) 0 ≡ true
   none-before q e h =
@@ -171,7 +170,7 @@ module _ (E : Recording) (acc : Accepted E) (x : ℕ) (inside : x < size E) wher
           (ltb-false _ first-ones (of-not (early a) late)) in
           let (s, q) = matched-found E acc a k (kind-is 2 S (event E a) w) later in
           let m = matched-wait E a s q .1 in
-          let p = keeps-match a s k q in
+          let p = keeps-cause a s k (Memᴰ·append-right (sources (E .events) a) (Memᴰ·append-left _ (in-found q))) in
           (s, m .inside, both (subst (λ (y : ℕ). isSignal y (event E s) ≡ true) (object-is 2 S (event E a) w) (m .signal)) (lt-ltb (place o s) (place o e) (omega arith)), (w, q))
 
   wait-kept : (e : ℕ) → e < size E → waitKept (E .levels) (earlier E o e) (event E e) ≡ true
@@ -183,9 +182,38 @@ module _ (E : Recording) (acc : Accepted E) (x : ℕ) (inside : x < size E) wher
       let w = count-earlier E o once (isWait (objectOf E e)) e in
       let s = count-earlier E o once (isSignal (objectOf E e)) e in omega tests)
 
+  -- the first posts on its flag, as many as its post count, are before a flag wait
+  flag-served : (e : ℕ) → e < size E → eqb (kindOf E e) flagWait ≡ true
+      → postOf (E .levels) (objectOf E e) ≤ tally (λ a. isPost (objectOf E e) (event E a) && sooner o a e) (size E)
+  flag-served e l t =
+      let enough = flag-before E acc e l t in
+      let more = tally-grow post e (size E) (omega arith) in
+      let ranks = tally-first post n (size E) in
+      let kept = tally-le (λ a. post a && ltb (tally post a) n) (λ a. post a && sooner o a e) (size E)
+      (λ a k u. let p = first (post a) (ltb (tally post a) n) u in both p (lt-ltb _ _ (opens a k p (ltb-true (tally post a) n (second (post a) _ u))))) in
+      omega arith
+    where
+      post : ℕ → Bool
+      post a = isPost (objectOf E e) (event E a)
+
+      n : ℕ
+      n = postOf (E .levels) (objectOf E e)
+
+      opens : (a : ℕ) → a < size E → post a ≡ true → tally post a < n → Precedes o a e
+      opens a k p r =
+          keeps-cause e a l
+          (Memᴰ·append-right (sources (E .events) e)
+          (Memᴰ·append-right (found (matched (E .levels) (E .events) e)) (opened-has E e a t (record { inside = k; post = p; rank = r }))))
+
+  flag-kept : (e : ℕ) → e < size E → flagKept (E .levels) (earlier E o e) (event E e) ≡ true
+  unfolding flagKept
+  flag-kept e l =
+      implies-by (eqb (kindOf E e) flagWait) _
+      (λ t. let h = flag-served e l t in let p = count-earlier E o once (isPost (objectOf E e)) e in omega tests)
+
   rules : (e : ℕ) → e < size E → obeys (E .levels) (earlier E o e) (event E e) ≡ true
   unfolding obeys lifeKept
-  rules e l = both (both (both (not-joined e l) (fork-kept e l)) (join-kept e l)) (wait-kept e l)
+  rules e l = both (both (both (both (not-joined e l) (fork-kept e l)) (join-kept e l)) (wait-kept e l)) (flag-kept e l)
 
   pub forward-admissible : Admissible E (bringForward (E .events) (recorded E) x)
   unfolding bringForward

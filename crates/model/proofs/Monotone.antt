@@ -2,7 +2,7 @@
 -- their twins in another, with a k no lower, no further candidates and enough of them, so is the k-th least.
 -- Assumes nothing.
 use Prim.Native.Nat.{ℕ, _≤_, zero-le}
-use mathlib.Core.Path.{_≡_, refl, sym, ap, subst, _∙_}
+use mathlib.Core.Path.{_≡_, sym, ap, subst, _∙_}
 use mathlib.Core.Bool.{Bool, true, false, not, _&&_}
 use mathlib.Core.List.{List, map}
 use native.Mathlib.Nat.{le-trans, le-of-eq}
@@ -11,9 +11,9 @@ use lib.Dec.{leb, eqb}
 use lib.ListN.{length, length-map}
 use Rattle.model.specs.declared.Event.{Event}
 use Rattle.model.specs.Numbers.{tally, count, filter, picked, kthLeast}
-use Rattle.model.specs.Recording.{startOf, Recording, eventIn, event, kindOf, objectOf, signal, wait, isOn, isWait}
+use Rattle.model.specs.Recording.{startOf, postOf, Recording, eventIn, event, kindOf, objectOf, wait, flagWait, isOn, isWait}
 use Rattle.model.specs.Vectors.{position, Vectors, number, ordered}
-use Rattle.model.specs.Passes.{signalsOn, waitsOn, kWhere, needed, candidates, served}
+use Rattle.model.specs.Passes.{eventsOn, postWhere, kWhere, needed, serving, candidates, kthAmong, served}
 use Rattle.model.specs.OneJob.{SameWork}
 use Rattle.model.proofs.Tests.{cases, clash, fails, of-not, to-not, both, first, second, leb-true, leb-false, le-leb}
 use Rattle.model.proofs.Counting.{count-map, count-filter}
@@ -46,9 +46,9 @@ candidates-tally f s c n v =
 abbrev pub Below : List Event → List Event → Vectors → Vectors → Type 0
 Below l m X Y = (a x t : ℕ) → Twin l m a x → number X a t ≤ number Y x t
 
--- the events of kind c on e's object that e is not ordered before
-abbrev pub choices : List Event → Vectors → ℕ → ℕ → List ℕ
-choices l X c e = filter (λ a. not (ordered l X e a)) (picked (λ a. isOn c (eventIn l e .object) (eventIn l a)) (length l))
+-- the events of the kind c that e asks for, on its object, that e is not ordered before
+abbrev pub choices : List Event → Vectors → (Event → ℕ) → ℕ → List ℕ
+choices l X c e = filter (λ a. not (ordered l X e a)) (picked (λ a. isOn (c (eventIn l e)) (eventIn l e .object) (eventIn l a)) (length l))
 
 module _ (l m : List Event) (same : SameRecords l m) where
   -- the k-th least rises from l to m: with a k that is no lower in m, for events of any kind, and any filter that leaves no event
@@ -92,11 +92,13 @@ module _ (l m : List Event) (same : SameRecords l m) where
         both (sym (alike a y u) ∙ first (r a) _ t) (ordered-below a e y x u w (second (r a) _ t))) in omega arith
 
     -- what step 2 raises to rises, for choices of any kind c and with any k that is no lower in m
-    pub raise-below : (c k j e x t : ℕ) → Twin l m e x → k ≤ j → j ≤ length (choices m Y c x)
-        → kthLeast k (map (λ a. number X a t) (choices l X c e)) ≤ kthLeast j (map (λ y. number Y y t) (choices m Y c x))
+    pub raise-below : (c : Event → ℕ) (k j e x t : ℕ) → Twin l m e x → k ≤ j → j ≤ length (choices m Y c x)
+        → kthAmong X k (choices l X c e) t ≤ kthAmong Y j (choices m Y c x) t
+    unfolding kthAmong
     raise-below c k j e x t w h many =
-        kth-below k j (λ a. number X a t) (λ y. number Y y t) (λ a. isOn c (eventIn l e .object) (eventIn l a)) (λ a. not (ordered l X e a))
-        (λ y. isOn c (eventIn m x .object) (eventIn m y)) (λ y. not (ordered m Y x y)) h many
+        kth-below k j (λ a. number X a t) (λ y. number Y y t)
+        (λ a. isOn (c (eventIn l e)) (eventIn l e .object) (eventIn l a)) (λ a. not (ordered l X e a))
+        (λ y. isOn (c (eventIn m x)) (eventIn m x .object) (eventIn m y)) (λ y. not (ordered m Y x y)) h many
         (λ a y v p q. (
           twin-on l m c e x a y w v ∙ p,
           to-not (fails (ordered l X e a) (λ u. clash (ordered-below e a x y w v u) (of-not (ordered m Y x y) q))),
@@ -109,21 +111,25 @@ abbrev pub Twins : Recording → Recording → ℕ → ℕ → Type 0
 Twins E F a x = Twin (E .events) (F .events) a x
 
 module _ (E F : Recording) (same : SameWork E F) (X Y : Vectors) (below : Below (E .events) (F .events) X Y) where
-  -- k rises: the start counts are the same
+  -- k rises: the start counts and the post counts are the same
   pub needed-below : (e x : ℕ) → Twins E F e x → needed E X e ≤ needed F Y x
-  unfolding needed waitsOn
-  needed-below e x w = go (eqb (kindOf E e) wait) (eqb (kindOf F x) wait) (ap (λ (v : Event). eqb (v .kind) wait) (w .same))
+  unfolding needed eventsOn
+  needed-below e x w = subst (λ (v : Event). needed E X e ≤ kWhere F Y x (eqb (v .kind) wait)) (w .same) (go (eqb (kindOf E e) wait))
     where
-      go : (b c : Bool) → b ≡ c → kWhere E X e b ≤ kWhere F Y x c
-      go false c q = zero-le
-      go true false q = clash refl q
-      go true true q =
+      flag : (b : Bool) → postWhere E e b ≤ postWhere F x b
+      flag false = zero-le
+      flag true = let posts = ap (λ (v : Event). postOf (E .levels) (v .object)) (w .same) ∙ same .posts (objectOf F x) in omega arith
+
+      go : (b : Bool) → kWhere E X e b ≤ kWhere F Y x b
+      go false =
+          subst (λ (v : Event). kWhere E X e false ≤ postWhere F x (eqb (v .kind) flagWait)) (w .same) (flag (eqb (kindOf E e) flagWait))
+      go true =
           let starts = ap (λ (v : Event). startOf (E .levels) (v .object)) (w .same) ∙ same .starts (objectOf F x) in
           let h = before-below (E .events) (F .events) (same .records) X Y below (λ a. isWait (objectOf E e) (event E a))
-          (λ y. isWait (objectOf F x) (event F y)) (λ a y v. twin-on (E .events) (F .events) wait e x a y w v) e x w in omega arith
+          (λ y. isWait (objectOf F x) (event F y)) (λ a y v. twin-on (E .events) (F .events) (λ _. wait) e x a y w v) e x w in omega arith
 
-  -- candidates are choices among the signals
+  -- candidates are choices among the events that serve e
   pub served-below : (e x t : ℕ) → Twins E F e x → needed F Y x ≤ length (candidates F Y x) → served E X e t ≤ served F Y x t
-  unfolding served candidates signalsOn
+  unfolding served candidates eventsOn
   served-below e x t w many =
-      raise-below (E .events) (F .events) (same .records) X Y below signal (needed E X e) (needed F Y x) e x t w (needed-below e x w) many
+      raise-below (E .events) (F .events) (same .records) X Y below (λ v. serving (v .kind)) (needed E X e) (needed F Y x) e x t w (needed-below e x w) many

@@ -3,11 +3,12 @@
 use Prim.Native.Nat.{ℕ, zero, suc, _+_, _≤_, _<_}
 use mathlib.Core.Path.{_≡_, refl, sym, ap, ap₂, subst, _∙_}
 use mathlib.Core.Bool.{Bool, true, false, cond, not, _&&_}
-use mathlib.Core.List.{List, [], _∷_, _++_, List·Memᴰ, List·Memᴰ·head, List·Memᴰ·tail}
+use mathlib.Core.List.{List, [], _∷_, _++_, append-nil, List·Memᴰ, List·Memᴰ·head, List·Memᴰ·tail}
 use native.Mathlib.Nat.{not-suc-le-zero, zero-add, add-zero}
 use native.Mathlib.Omega.{arith}
 use lib.Dec.{ltb, eqb}
-use lib.ListN.{length, getD, length-append}
+use lib.ListN.{length, getD, take, length-append}
+use lib.Seq.{take-nil, take-all, take-append-le}
 use Rattle.model.specs.declared.Found.{Found}
 use Rattle.model.specs.Numbers.{bit, sum, tally, count, each, picked, nth}
 use Rattle.model.specs.Orders.{place, occurrences}
@@ -207,6 +208,25 @@ module _ (p : ℕ → Bool) where
 
   pub at-rank : (n k : ℕ) → k < length (picked p n) → let x = getD (picked p n) k 0 in (x < n) × (p x ≡ true) × (tally p x ≡ k)
   at-rank n k h = nth-of n k (getD (picked p n) k 0) (nth-inside (picked p n) k h)
+
+-- ---- the first k of them: those of rank below k
+
+pub first-picked : (p : ℕ → Bool) (k n : ℕ) → take k (picked p n) ≡ picked (λ e. p e && ltb (tally p e) k) n
+unfolding picked each sum
+first-picked p k zero = take-nil k
+first-picked p k (suc n) =
+    let few = picked-length p n in
+    cases (ltb (tally p n) k)
+    (λ t.
+    let more = picked-length p (suc n) in
+    let one = bit-le (p n) true (λ _. refl) in
+    take-all k (picked p (suc n)) (omega tests)
+    ∙ ap₂ (λ (l m : List ℕ). l ++ m) (sym (take-all k (picked p n) (omega tests)) ∙ first-picked p k n)
+    (ap (λ (b : Bool). cond b (n ∷ []) []) (sym (and-true (p n)) ∙ ap (λ (b : Bool). p n && b) (sym t))))
+    (λ t.
+    let first = picked (λ e. p e && ltb (tally p e) k) n in
+    take-append-le k (picked p n) (cond (p n) (n ∷ []) []) (omega tests) ∙ first-picked p k n ∙ sym (append-nil first)
+    ∙ ap (λ (b : Bool). first ++ cond b (n ∷ []) []) (sym (and-fails (p n) t)))
 
 -- ---- those that pass first, then the others
 

@@ -4,7 +4,7 @@
 use Prim.Native.Nat.{ℕ, zero, suc, _+_, _*_, _/_, _%_, _<_}
 use mathlib.Core.Path.{_≡_, refl, sym, ap, _∙_}
 use mathlib.Core.Bool.{true}
-use mathlib.Core.List.{List, [], _∷_, map}
+use mathlib.Core.List.{List, [], _∷_, _++_, map}
 use native.Mathlib.Nat.{le-of-suc-le-suc, not-suc-le-zero, suc-add}
 use native.Mathlib.Omega.{arith}
 use lib.Dec.{eqb}
@@ -18,15 +18,15 @@ use Rattle.model.specs.Numbers.{flatMap}
 use Rattle.model.specs.Refusals.{unless}
 use Rattle.model.specs.Recording.{Recording, size, noEvent, event, eventIn, knownKind, named, firstFault, Accepted}
 use Rattle.model.specs.File.{u16At, eventAt, eventsOf, levelsBy, recordingBy, recordingOf}
-use Rattle.model.specs.Reading.{knownEdition, inRange, readingOf}
+use Rattle.model.specs.Reading.{knownEdition, inRange, postsUp, readingOf}
 use Rattle.model.specs.Orders.{rearranged, inOrder, Obeying}
-use Rattle.model.specs.Writing.{recordAt, recordsIn, fileIn, startsFit, recordsCheck}
+use Rattle.model.specs.Writing.{recordAt, recordsIn, fileIn, levelsFit, recordsCheck}
 use Rattle.model.proofs.Tests.{eq-eqb}
 use Rattle.model.proofs.Lists.{listOf-at}
 use Rattle.model.proofs.Place.{at-map}
 use Rattle.model.proofs.Accept.{kept-at, kept-accepted}
 use Rattle.model.proofs.Files.{events-length}
-use Rattle.model.proofs.RoundTrip.{written-accepted}
+use Rattle.model.proofs.RoundTrip.{records-checks, written-accepted}
 
 -- the numbers of an order are below n
 abbrev pub Within : ℕ → List ℕ → Type 0
@@ -34,7 +34,7 @@ Within n o = (i : ℕ) → i < length o → getD o i 0 < n
 
 -- ---- the records of an accepted recording, in any order
 
--- they are accepted where they obey the four rules in that order: kind and names are as they were
+-- they are accepted where they obey the rules in that order: kind and names are as they were
 pub obeying-accepted : (E : Recording) → Accepted E → (o : List ℕ) → Within (size E) o → Obeying (E .levels) (rearranged E o) → Accepted (inOrder E o)
 obeying-accepted E acc o within rules =
     kept-accepted (inOrder E o)
@@ -44,7 +44,7 @@ obeying-accepted E acc o within rules =
     let same = at-map (event E) i o 0 noEvent k in
     let own = kept-at E acc (getD o i 0) (within i k) in
     record {
-      kind = ap knownKind same ∙ own .kind;
+      kind = ap (knownKind (E .counts)) same ∙ own .kind;
       names = ap (named (E .counts)) same ∙ own .names;
       rules = rules i l;
     })
@@ -89,28 +89,29 @@ module _ (s o : List ℕ) (within : Within (length (eventsOf s)) o) where
       ∙ event-in s o i l
       ∙ sym (at-map (eventIn (eventsOf s)) i o 0 noEvent l ∙ listOf-at (eventAt s) noEvent (length s / 4) (getD o i 0) (omega arith)))
 
-  module _ (c : Counts) (b : List ℕ) where
-    -- with these counts and start bytes they are the recording of all the records, in this order
-    pub recording-in : recordingBy (recordsIn s o) c b ≡ inOrder (recordingBy s c b) o
-    recording-in = ap (λ (l : List Event). record { counts = c; levels = levelsBy b; events = l }) events-in
+  -- with these counts and level bytes they are the recording of all the records, in this order
+  pub recording-in : (c : Counts) (b : List ℕ) → recordingBy (recordsIn s o) c b ≡ inOrder (recordingBy s c b) o
+  recording-in c b = ap (λ (l : List Event). record { counts = c; levels = levelsBy c b; events = l }) events-in
 
-    -- and are refused exactly as its rules refuse it
-    pub check-in : recordsCheck (recordsIn s o) c b
+  module _ (c : Counts) (b p : List ℕ) where
+    -- they are refused exactly as its rules refuse it
+    pub check-in : recordsCheck (recordsIn s o) c b p
         ≡ unless (knownEdition c) Refusal.Edition λ _.
         unless (inRange c (length o)) Refusal.Count λ _.
-        unless (startsFit c b) Refusal.Starts λ _.
-        let E = inOrder (recordingBy s c b) o in firstFault E (size E)
-    unfolding recordsCheck
+        unless (postsUp p) Refusal.Count λ _.
+        unless (levelsFit c b p) Refusal.Starts λ _.
+        let E = inOrder (recordingBy s c (b ++ p)) o in firstFault E (size E)
     check-in =
         let n = in-length s o in
         let whole : eqb (length (recordsIn s o) % 4) 0 ≡ true = eq-eqb (length (recordsIn s o) % 4) 0 (omega arith) in
-        rw (whole, in-count s o, events-in)
+        records-checks (recordsIn s o) c b p ∙ rw (whole, in-count s o, events-in)
 
     -- so the file of them is accepted where they are, and holds that recording
-    pub accepted-in : knownEdition c ≡ true → inRange c (length o) ≡ true → startsFit c b ≡ true → Accepted (inOrder (recordingBy s c b) o)
-        → (readingOf (fileIn s o c b) ≡ Reading.Accepted (record { start = 0; records = length o; counts = c }))
-        × (recordingOf (fileIn s o c b) ≡ inOrder (recordingBy s c b) o)
+    pub accepted-in : knownEdition c ≡ true → inRange c (length o) ≡ true → postsUp p ≡ true → levelsFit c b p ≡ true
+        → Accepted (inOrder (recordingBy s c (b ++ p)) o)
+        → (readingOf (fileIn s o c (b ++ p)) ≡ Reading.Accepted (record { start = 0; records = length o; counts = c }))
+        × (recordingOf (fileIn s o c (b ++ p)) ≡ inOrder (recordingBy s c (b ++ p)) o)
     unfolding Accepted
-    accepted-in edition range fit acc =
-        let (accepted, _, _, holds) = written-accepted (recordsIn s o) c b (check-in ∙ rw (edition, range, fit) acc) in
-        (accepted ∙ ap (λ (k : ℕ). Reading.Accepted (record { start = 0; records = k; counts = c })) (in-count s o), holds ∙ recording-in)
+    accepted-in edition range up fit acc =
+        let (accepted, _, _, _, holds) = written-accepted (recordsIn s o) c b p (check-in ∙ rw (edition, range, up, fit) acc) in
+        (accepted ∙ ap (λ (k : ℕ). Reading.Accepted (record { start = 0; records = k; counts = c })) (in-count s o), holds ∙ recording-in c (b ++ p))

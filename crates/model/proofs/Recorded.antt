@@ -4,7 +4,7 @@ use Prim.Native.Nat.{ℕ, zero, suc, _+_, _-_, _≤_, _<_, max, zero-le}
 use mathlib.Core.Path.{_≡_, refl, sym, ap, ap₂, subst, _∙_}
 use mathlib.Core.Logic.{_⊎_, inl, inr}
 use mathlib.Core.Bool.{Bool, true, false, cond, _&&_}
-use mathlib.Core.List.{[], List·Memᴰ, List·Memᴰ·append-cases, Memᴰ·append-left}
+use mathlib.Core.List.{[], _++_, List·Memᴰ, List·Memᴰ·not-nil, List·Memᴰ·append-cases, Memᴰ·append-left}
 use Rattle.model.specs.declared.Found.{Found}
 use native.Mathlib.Nat.{le-refl, le-trans, le-of-eq, not-suc-le-zero, le-max-left, le-max-right}
 use native.Mathlib.Decide.{le-ind}
@@ -12,18 +12,18 @@ use native.Mathlib.Omega.{arith}
 use lib.Dec.{leb, ltb, eqb}
 use lib.ListN.{getD, set, List·getD-eq-default}
 use Rattle.model.specs.Numbers.{tally, largest, nth, found}
-use Rattle.model.specs.Recording.{startOf, event, ofTask, isSignal, isWait, Accepted, Recording, size, taskOf, kindOf, objectOf, tasks, wait}
+use Rattle.model.specs.Recording.{startOf, postOf, event, ofTask, isSignal, isWait, isPost, Accepted, Recording, size, taskOf, kindOf, objectOf, tasks, wait, flagWait}
 use Rattle.model.specs.Orders.{Admissible, fileOrder}
 use Rattle.model.specs.Vectors.{atOrBefore, position, Vectors, number, start}
-use Rattle.model.specs.Passes.{sources, gathered, signalsOn}
-use Rattle.model.specs.Recorded.{waitsBefore, matchWhere, matched, causes, recordedTo, recorded}
-use Rattle.model.proofs.Tests.{cases, tests, compared, ltb-true, ltb-false, le-ltb, eqb-true, eq-eqb, le-leb, leb-true, leb-false}
+use Rattle.model.specs.Passes.{sources, gathered, eventsOn, signalsOn}
+use Rattle.model.specs.Recorded.{waitsBefore, matchWhere, matched, openWhere, opened, causes, recordedTo, recorded}
+use Rattle.model.proofs.Tests.{cases, both, first, second, tests, compared, ltb-true, ltb-false, le-ltb, eqb-true, eq-eqb, le-leb, leb-true, leb-false}
 use Rattle.model.proofs.Sum.{tally-grow, tally-ext, tally-cut}
 use Rattle.model.proofs.Least.{largest-has, largest-ext, largest-reached}
 use Rattle.model.proofs.Lists.{number-set-same, number-set-other}
 use Rattle.model.proofs.Positions.{start-at, position-pos, position-rises, position-grows}
-use Rattle.model.proofs.Picked.{nth-of, nth-found}
-use Rattle.model.proofs.Rules.{sooner, wait-served}
+use Rattle.model.proofs.Picked.{picked-mem, picked-in, nth-of, nth-found, first-picked}
+use Rattle.model.proofs.Rules.{sooner, wait-served, flag-served}
 use Rattle.model.proofs.Sources.{last-found, source-of, source-precedes, of-found, has-previous}
 use Rattle.model.proofs.Accept.{task-inside}
 use Rattle.model.proofs.FileOrder.{file-admissible, file-lower, file-test}
@@ -38,7 +38,7 @@ pub record Match (E : Recording) (e s : ℕ) : Type 0 where
   pub rank : startOf (E .levels) (objectOf E e) + tally (λ b. isSignal (objectOf E e) (event E b)) s ≡ tally (λ w. isWait (objectOf E e) (event E w)) e
 
 pub matched-wait : (E : Recording) (e s : ℕ) → matched (E .levels) (E .events) e ≡ Found.At s → (eqb (kindOf E e) wait ≡ true) × Match E e s
-unfolding matched signalsOn
+unfolding matched eventsOn
 matched-wait E e s h = go (eqb (kindOf E e) wait) refl h
   where
     go : (b : Bool) → eqb (kindOf E e) wait ≡ b → matchWhere (E .levels) (E .events) e b ≡ Found.At s → (eqb (kindOf E e) wait ≡ true) × Match E e s
@@ -59,39 +59,81 @@ matched-wait E e s h = go (eqb (kindOf E e) wait) refl h
             let late = ltb-false waits first (sym t) in
             record { inside = inside; signal = signal; rank = omega arith }
 
+-- ---- the first posts
+
+-- s is one of the first posts on the flag, as many as its post count
+pub record Opens (E : Recording) (e s : ℕ) : Type 0 where
+  pub inside : s < size E
+  pub post : isPost (objectOf E e) (event E s) ≡ true
+  pub rank : tally (λ b. isPost (objectOf E e) (event E b)) s < postOf (E .levels) (objectOf E e)
+
+opened-flag : (E : Recording) (e s : ℕ) → List·Memᴰ s (opened (E .levels) (E .events) e) → (eqb (kindOf E e) flagWait ≡ true) × Opens E e s
+unfolding opened eventsOn
+opened-flag E e s h = go (eqb (kindOf E e) flagWait) refl h
+  where
+    post : ℕ → Bool
+    post b = isPost (objectOf E e) (event E b)
+
+    go : (b : Bool) → eqb (kindOf E e) flagWait ≡ b → List·Memᴰ s (openWhere (E .levels) (E .events) e b) → (eqb (kindOf E e) flagWait ≡ true) × Opens E e s
+    go false q h = absurd (List·Memᴰ·not-nil h)
+    go true q h =
+        let (l, t) = picked-mem _ s (size E) (rw first-picked at h) in
+        let few = second (post s) _ t in
+        (q, record { inside = l; post = first (post s) _ t; rank = omega tests })
+
+pub opened-has : (E : Recording) (e s : ℕ) → eqb (kindOf E e) flagWait ≡ true → Opens E e s → List·Memᴰ s (opened (E .levels) (E .events) e)
+unfolding opened eventsOn
+opened-has E e s q h =
+    let few = h .rank in
+    rw (q, first-picked) (picked-in _ s (size E) (h .inside) (both (h .post) (omega tests)))
+
+-- what has fewer of a kind before it than e is before e
+rank-lower : (p : ℕ → Bool) (e s : ℕ) → tally p s < tally p e → s < e
+rank-lower p e s h =
+    cases (ltb s e) (λ t. ltb-true s e t) (λ t. let g = tally-grow p e s (ltb-false s e t) in absurd (omega arith))
+
 module _ (E : Recording) (acc : Accepted E) where
   file : Admissible E (fileOrder E)
   file = file-admissible E acc
+
+  -- what the file's order puts before e
+  before : (e : ℕ) → e < size E → (p : ℕ → Bool) → tally (λ a. p a && sooner (fileOrder E) a e) (size E) ≡ tally p e
+  before e l p =
+      tally-ext (λ a. p a && sooner (fileOrder E) a e) (λ a. p a && ltb a e) (size E) (λ a k. ap (λ (b : Bool). p a && b) (file-test E a e k l))
+      ∙ tally-cut p e (size E) (omega arith)
 
   wait-before : (e : ℕ) → e < size E → eqb (kindOf E e) wait ≡ true
       → tally (λ w. isWait (objectOf E e) (event E w)) e < startOf (E .levels) (objectOf E e) + tally (λ b. isSignal (objectOf E e) (event E b)) e
   wait-before e l q =
       let a = wait-served E (fileOrder E) file e l q in
-      let w = cut (λ w. isWait (objectOf E e) (event E w)) in
-      let s = cut (λ b. isSignal (objectOf E e) (event E b)) in omega arith
-    where
-      cut : (p : ℕ → Bool) → tally (λ a. p a && sooner (fileOrder E) a e) (size E) ≡ tally p e
-      cut p =
-          tally-ext (λ a. p a && sooner (fileOrder E) a e) (λ a. p a && ltb a e) (size E) (λ a k. ap (λ (b : Bool). p a && b) (file-test E a e k l))
-          ∙ tally-cut p e (size E) (omega arith)
+      let w = before e l (λ w. isWait (objectOf E e) (event E w)) in
+      let s = before e l (λ b. isSignal (objectOf E e) (event E b)) in omega arith
 
-  pub matched-lower : (e s : ℕ) → e < size E → matched (E .levels) (E .events) e ≡ Found.At s → s < e
+  pub flag-before : (e : ℕ) → e < size E → eqb (kindOf E e) flagWait ≡ true
+      → postOf (E .levels) (objectOf E e) ≤ tally (λ b. isPost (objectOf E e) (event E b)) e
+  flag-before e l q =
+      let a = flag-served E (fileOrder E) file e l q in
+      let p = before e l (λ b. isPost (objectOf E e) (event E b)) in omega arith
+
+  matched-lower : (e s : ℕ) → e < size E → matched (E .levels) (E .events) e ≡ Found.At s → s < e
   matched-lower e s l h =
-      cases (ltb s e) (λ t. ltb-true s e t)
-      (λ t.
       let (q, m) = matched-wait E e s h in
       let r = m .rank in
-      let b = wait-before e l q in
-      let g = tally-grow (λ b. isSignal (objectOf E e) (event E b)) e s (ltb-false s e t) in
-      absurd (omega arith))
+      let b = wait-before e l q in rank-lower (λ b. isSignal (objectOf E e) (event E b)) e s (omega arith)
+
+  opened-lower : (e s : ℕ) → e < size E → List·Memᴰ s (opened (E .levels) (E .events) e) → s < e
+  opened-lower e s l h =
+      let (q, m) = opened-flag E e s h in
+      let r = m .rank in
+      let b = flag-before e l q in rank-lower (λ b. isPost (objectOf E e) (event E b)) e s (omega arith)
 
   -- the waits after the first ones are matched
   pub matched-found : (e : ℕ) → e < size E → eqb (kindOf E e) wait ≡ true → startOf (E .levels) (objectOf E e) ≤ waitsBefore (E .events) e
       → (s : ℕ) × (matched (E .levels) (E .events) e ≡ Found.At s)
-  unfolding matched signalsOn
+  unfolding matched eventsOn
   matched-found e l q late =
       let signals = tally-grow (λ b. isSignal (objectOf E e) (event E b)) e (size E) (omega arith) in
-      let before = wait-before e l q in
+      let enough = wait-before e l q in
       let (s, h) = nth-found (λ b. isSignal (objectOf E e) (event E b)) (size E) (waitsBefore (E .events) e - startOf (E .levels) (objectOf E e)) (omega arith) in
       (s, rw (q, le-ltb (waitsBefore (E .events) e) (startOf (E .levels) (objectOf E e)) late) h)
 
@@ -99,9 +141,14 @@ module _ (E : Recording) (acc : Accepted E) where
   pub causes-lower : (e s : ℕ) → e < size E → List·Memᴰ s (causes (E .levels) (E .events) e) → s < e
   causes-lower e s l h = go (List·Memᴰ·append-cases (sources (E .events) e) h)
     where
-      go : List·Memᴰ s (sources (E .events) e) ⊎ List·Memᴰ s (found (matched (E .levels) (E .events) e)) → s < e
+      served : List·Memᴰ s (found (matched (E .levels) (E .events) e)) ⊎ List·Memᴰ s (opened (E .levels) (E .events) e) → s < e
+      served (inl k) = matched-lower e s l (of-found (matched (E .levels) (E .events) e) k)
+      served (inr k) = opened-lower e s l k
+
+      go : List·Memᴰ s (sources (E .events) e)
+          ⊎ List·Memᴰ s (found (matched (E .levels) (E .events) e) ++ opened (E .levels) (E .events) e) → s < e
       go (inl k) = let (a, b) = source-precedes E (fileOrder E) file e s l (source-of E e s k) in file-lower E s e a l b
-      go (inr k) = matched-lower e s l (of-found (matched (E .levels) (E .events) e) k)
+      go (inr k) = served (List·Memᴰ·append-cases (found (matched (E .levels) (E .events) e)) k)
 
 -- ---- the recorded vectors
 
@@ -140,7 +187,7 @@ module _ (E : Recording) where
 previous-cause : (E : Recording) (a e : ℕ) → a < e → taskOf E a ≡ taskOf E e → (p : ℕ) × (a ≤ p) × (p < e) × (taskOf E p ≡ taskOf E e) × List·Memᴰ p (causes (E .levels) (E .events) e)
 previous-cause E a e l t =
     let (p, h, r, k) = last-found (λ a. ofTask (taskOf E e) (event E a)) e a l (eq-eqb _ _ t) in
-    (p, k, r .inside, eqb-true (taskOf E p) (taskOf E e) (r .passes), Memᴰ·append-left (found (matched (E .levels) (E .events) e)) (has-previous E e p h))
+    (p, k, r .inside, eqb-true (taskOf E p) (taskOf E e) (r .passes), Memᴰ·append-left (found (matched (E .levels) (E .events) e) ++ opened (E .levels) (E .events) e) (has-previous E e p h))
 
 -- ---- what is ordered is ordered all the way down
 

@@ -12,19 +12,22 @@ use lib.ListN.{length, getD, take, drop, length-append, length-take, length-drop
 use lib.Seq.{getD-append-add, getD-drop, ext-getD, take-at, drop-at, take-add}
 use Rattle.model.specs.declared.Counts.{Counts}
 use Rattle.model.specs.declared.Trailer.{Trailer}
+use Rattle.model.specs.declared.Refusal.{Refusal}
 use Rattle.model.specs.declared.Check.{Check}
 use Rattle.model.specs.declared.Reading.{Reading}
 use Rattle.model.specs.declared.Written.{Written}
 use Rattle.model.specs.Numbers.{listFrom, listOf}
-use Rattle.model.specs.File.{u16At, u32At, trailerAt, trailerOf, recordBytes, levelCount, levelBytes, recordingBy, recordingOf}
-use Rattle.model.specs.Reading.{lastEdition, knownEdition, extentMet, inRange, fileCheck, readingOf, recordsOf, startsOf}
+use Rattle.model.specs.Refusals.{unless}
+use Rattle.model.specs.Recording.{size, semaphoresOf, flagsOf, hasFlags, firstFault}
+use Rattle.model.specs.File.{u16At, u32At, trailerAt, trailerOf, recordBytes, startCount, levelCount, levelBytes, recordingBy, recordingOf}
+use Rattle.model.specs.Reading.{lastEdition, knownEdition, extentMet, inRange, postsUp, fileCheck, readingOf, recordsOf, startsOf, postsOf}
 use Rattle.model.specs.Acceptable.{InRange}
-use Rattle.model.specs.Writing.{u16Bytes, u32Bytes, trailerBytes, fileOf, fileLength, startsFit, recordsCheck, writingCheck, writtenBy, writtenOf, outAfterWriting}
+use Rattle.model.specs.Writing.{u16Bytes, u32Bytes, trailerBytes, fileOf, fileLength, levelsFit, lentCheck, recordsCheck, writingCheck, writtenBy, writtenOf, outAfterWriting}
 use Rattle.model.specs.RoundTrip.{Fits, Bytes, RoundTrip}
-use Rattle.model.proofs.Tests.{cases, tests, second, leb-true, le-leb, eqb-true, eq-eqb, ne-eqb}
-use Rattle.model.proofs.Checks.{unless-passed, then-passed}
+use Rattle.model.proofs.Tests.{cases, tests, both, first, second, leb-true, le-leb, eqb-true, eq-eqb, ne-eqb}
+use Rattle.model.proofs.Checks.{unless-passed, then-passed, five-then}
 use Rattle.model.proofs.Lists.{listOf-length, listOf-at}
-use Rattle.model.proofs.Files.{in-range, Sound, sound, reading-passed, trailer-read, bytes-length}
+use Rattle.model.proofs.Files.{in-range, Sound, sound, reading-passed, trailer-read, bytes-length, starts-met, posts-met}
 
 -- ---- numbers behind the records
 
@@ -40,12 +43,19 @@ u32-after s m i =
     ap₂ (λ (a b : ℕ). a + 65536 * b) (u16-after s m i)
     (ap (u16At (s ++ m)) (add-assoc (length s) i 2) ∙ u16-after s m (i + 2))
 
+-- the field of semaphores and flags fits in 16 bits
+field-fits : (c : Counts) → semaphoresOf c ≤ 64 → flagsOf c ≤ 64 → c .semaphores < 65536
+unfolding semaphoresOf flagsOf
+field-fits c few flags =
+    cases (hasFlags c) (λ t. let high : c .semaphores / 256 ≤ 64 = rw t at flags in omega arith)
+    (λ t. let all : c .semaphores ≤ 64 = rw t at few in omega arith)
+
 -- counts within their ranges, and a known edition, fit
 fits-by : (s : List ℕ) (c : Counts) → c .edition ≤ lastEdition → InRange c (length s / 4) → Fits s c
 fits-by s c known r =
     record {
       tasks = omega (arith, r .few-tasks);
-      semaphores = omega (arith, r .few-semaphores);
+      semaphores = field-fits c (r .few-semaphores) (r .few-flags);
       cells = omega (arith, r .few-cells);
       edition = omega arith;
       records = omega (arith, r .few-records);
@@ -103,15 +113,11 @@ module _ (s : List ℕ) (c : Counts) (b : List ℕ) where
         ap (recordBytes (fileOf s c b)) written-trailer ∙ ap (take (4 * (length s / 4))) behind-records
         ∙ take-at s (b ++ trailerBytes (length s / 4) c) (4 * (length s / 4)) (omega arith)
 
-    module _ (fit : startsFit c b ≡ true) where
-      as-many : length b ≡ levelCount c
-      unfolding startsFit
-      as-many = eqb-true (length b) (levelCount c) fit
-
-      -- its start bytes
-      pub written-starts : length s % 4 ≡ 0 → levelBytes (fileOf s c b) (trailerOf (fileOf s c b)) ≡ b
+    module _ (as-many : length b ≡ levelCount c) where
+      -- its level bytes
+      pub written-levels : length s % 4 ≡ 0 → levelBytes (fileOf s c b) (trailerOf (fileOf s c b)) ≡ b
       unfolding levelBytes
-      written-starts whole =
+      written-levels whole =
           let behind = trailerBytes (length s / 4) c in
           ap (levelBytes (fileOf s c b)) written-trailer
           ∙ ap (take (levelCount c)) (ap (drop (0 + 4 * (length s / 4))) behind-records ∙ drop-at s (b ++ behind) (0 + 4 * (length s / 4)) (omega arith))
@@ -128,34 +134,77 @@ module _ (s : List ℕ) (c : Counts) (b : List ℕ) where
           ∙ cases (eqb (length s % 4) 0) (λ t. eq-eqb (0 + 4 * (length s / 4) + levelCount c) (trailerAt f) (omega tests) ∙ sym t)
           (λ t. ne-eqb (0 + 4 * (length s / 4) + levelCount c) (trailerAt f) (λ q. omega tests) ∙ sym t)
 
-      -- what writing refuses is exactly what reading the file it would have written refuses
-      pub same-check : fileCheck (fileOf s c b) ≡ recordsCheck s c b
-      unfolding fileCheck recordsCheck recordingOf
-      same-check =
-          let l = file-length in
-          let long : leb 16 (length (fileOf s c b)) ≡ true = le-leb 16 (length (fileOf s c b)) (omega arith) in
-          let whole = eqb (length s % 4) 0 in
-          cases whole
-          (λ t. let w = eqb-true _ _ t in rw (long, written-extent, t, written-bytes w, written-starts w, written-trailer, fit))
-          (λ t. rw (long, written-extent, t, written-trailer))
+-- ---- start bytes and post bytes, one after the other
 
--- a file written from records that pass is accepted, and holds them, its start bytes and the recording that it was written from
-pub written-accepted : (s : List ℕ) (c : Counts) (b : List ℕ) → recordsCheck s c b ≡ Check.Passed
-    → (readingOf (fileOf s c b) ≡ Reading.Accepted (record { start = 0; records = length s / 4; counts = c }))
-    × (recordsOf (fileOf s c b) ≡ s) × (startsOf (fileOf s c b) ≡ b) × (recordingOf (fileOf s c b) ≡ recordingBy s c b)
-unfolding recordsCheck knownEdition readingOf recordsOf startsOf recordingOf
-written-accepted s c b checked =
-    let (edition, d) = unless-passed (knownEdition c) _ _ checked in
+module _ (c : Counts) (b p : List ℕ) (fit : levelsFit c b p ≡ true) where
+  starts-many : length b ≡ startCount c
+  unfolding levelsFit
+  starts-many = eqb-true (length b) (startCount c) (first (eqb (length b) (startCount c)) _ fit)
+
+  posts-many : length p ≡ flagsOf c
+  unfolding levelsFit
+  posts-many = eqb-true (length p) (flagsOf c) (second (eqb (length b) (startCount c)) _ fit)
+
+  levels-many : length (b ++ p) ≡ levelCount c
+  unfolding levelCount
+  levels-many = length-append b p ∙ ap₂ (λ (m n : ℕ). m + n) starts-many posts-many
+
+  -- are told apart again
+  first-starts : take (startCount c) (b ++ p) ≡ b
+  first-starts = take-at b p (startCount c) starts-many
+
+  then-posts : drop (startCount c) (b ++ p) ≡ p
+  then-posts = drop-at b p (startCount c) starts-many
+
+-- the checks of what is lent and of the records, in one row
+pub records-checks : (s : List ℕ) (c : Counts) (b p : List ℕ)
+    → recordsCheck s c b p
+    ≡ unless (knownEdition c) Refusal.Edition λ _.
+    unless (eqb (length s % 4) 0) Refusal.Extent λ _.
+    unless (inRange c (length s / 4)) Refusal.Count λ _.
+    unless (postsUp p) Refusal.Count λ _.
+    unless (levelsFit c b p) Refusal.Starts λ _.
+    let E = recordingBy s c (b ++ p) in firstFault E (size E)
+unfolding recordsCheck lentCheck
+records-checks s c b p = five-then (knownEdition c) _ (eqb (length s % 4) 0) _ (inRange c (length s / 4)) _ (postsUp p) _ (levelsFit c b p) _ _
+
+-- what writing refuses is exactly what reading the file it would have written refuses
+same-check : (s : List ℕ) (c : Counts) (b p : List ℕ) → Fits s c → levelsFit c b p ≡ true → fileCheck (fileOf s c (b ++ p)) ≡ recordsCheck s c b p
+unfolding fileCheck recordingOf
+same-check s c b p fits fit =
+    let f = fileOf s c (b ++ p) in
+    let l = file-length s c (b ++ p) in
+    let many = levels-many c b p fit in
+    let long : leb 16 (length f) ≡ true = le-leb 16 (length f) (omega arith) in
+    let extent = written-extent s c (b ++ p) fits many in
+    let trailer = written-trailer s c (b ++ p) fits in
+    let up = ap postsUp (then-posts c b p fit) in
+    cases (eqb (length s % 4) 0)
+    (λ t.
+    let w = eqb-true _ _ t in
+    rw (long, extent, written-bytes s c (b ++ p) fits w, written-levels s c (b ++ p) fits many w, trailer, up, records-checks s c b p, t, fit))
+    (λ t. rw (long, extent, trailer, records-checks s c b p, t))
+
+-- a file written from records that pass is accepted, and holds them, its start bytes and post bytes, and the recording that it was
+-- written from
+pub written-accepted : (s : List ℕ) (c : Counts) (b p : List ℕ) → recordsCheck s c b p ≡ Check.Passed
+    → let f = fileOf s c (b ++ p) in (readingOf f ≡ Reading.Accepted (record { start = 0; records = length s / 4; counts = c }))
+    × (recordsOf f ≡ s) × (startsOf f ≡ b) × (postsOf f ≡ p) × (recordingOf f ≡ recordingBy s c (b ++ p))
+unfolding recordsCheck lentCheck knownEdition readingOf recordsOf startsOf postsOf recordingOf
+written-accepted s c b p checked =
+    let (lent, _) = then-passed (lentCheck s c b p) _ checked in
+    let (edition, d) = unless-passed (knownEdition c) _ _ lent in
     let (whole, e) = unless-passed (eqb (length s % 4) 0) _ _ d in
     let (range, g) = unless-passed (inRange c (length s / 4)) _ _ e in
-    let (fit, _) = unless-passed (startsFit c b) _ _ g in
+    let (_, h) = unless-passed (postsUp p) _ _ g in
+    let (fit, _) = unless-passed (levelsFit c b p) _ _ h in
     let divided = eqb-true (length s % 4) 0 whole in
     let fits = fits-by s c (leb-true (c .edition) lastEdition (second (leb 1 (c .edition)) _ edition)) (in-range c (length s / 4) range) in
-    let same : fileCheck (fileOf s c b) ≡ Check.Passed = same-check s c b fits fit ∙ checked in
-    let trailer = written-trailer s c b fits in
-    let records = written-bytes s c b fits divided in
-    let starts = written-starts s c b fits fit divided in
-    (rw (same, trailer), rw (same, records), rw (same, starts), rw (records, starts, trailer))
+    let same : fileCheck (fileOf s c (b ++ p)) ≡ Check.Passed = same-check s c b p fits fit ∙ checked in
+    let trailer = written-trailer s c (b ++ p) fits in
+    let records = written-bytes s c (b ++ p) fits divided in
+    let levels = written-levels s c (b ++ p) fits (levels-many c b p fit) divided in
+    (rw (same, trailer), rw (same, records), rw (same, levels, trailer) (first-starts c b p fit), rw (same, levels, trailer) (then-posts c b p fit), rw (records, levels, trailer))
 
 -- ---- writing what was read
 
@@ -234,7 +283,7 @@ module _ (f : List ℕ) (bytes : Bytes f) (ok : Sound f) (none : trailerOf f .st
       (ap (λ (i : ℕ). take k (drop i f)) (let m : trailerOf f .start + n ≡ n = omega arith in m))
       ∙ sym (take-add n k f) ∙ ap (λ (i : ℕ). take i f) (let m : n + k ≡ trailerAt f = omega arith in m)
 
-  -- the file written from its records, counts and start bytes is the file
+  -- the file written from its records, counts and level bytes is the file
   pub written-again : fileOf (recordBytes f (trailerOf f)) (trailerOf f .counts) (levelBytes f (trailerOf f)) ≡ f
   unfolding fileOf
   written-again =
@@ -243,13 +292,15 @@ module _ (f : List ℕ) (bytes : Bytes f) (ok : Sound f) (none : trailerOf f .st
       ap₂ (λ (r : List ℕ) (m : ℕ). r ++ trailerBytes m (trailerOf f .counts)) own-front n
       ∙ ap (λ (r : List ℕ). take (trailerAt f) f ++ r) own-trailer ∙ take-append-drop (trailerAt f) f
 
--- the start bytes of a file that reading accepts are as many as its edition takes
-pub own-starts : (f : List ℕ) → Sound f → startsFit (trailerOf f .counts) (levelBytes f (trailerOf f)) ≡ true
-unfolding levelBytes startsFit
-own-starts f ok =
-    let x = ok .extent in
-    let k = levelCount (trailerOf f .counts) in
-    eq-eqb (length (take k (drop (trailerOf f .start + 4 * trailerOf f .records) f))) k (simp (length-take, length-drop) (omega arith))
+-- the start bytes and the post bytes of a file that reading accepts are as many as its edition takes
+pub own-levels : (f : List ℕ) → Sound f → levelsFit (trailerOf f .counts) (recordingOf f .levels .starts) (recordingOf f .levels .posts) ≡ true
+unfolding levelsFit
+own-levels f ok = both (eq-eqb _ _ (starts-met f (ok .extent))) (eq-eqb _ _ (posts-met f (ok .extent)))
+
+-- and together are its level bytes
+pub own-joined : (f : List ℕ) → recordingOf f .levels .starts ++ recordingOf f .levels .posts ≡ levelBytes f (trailerOf f)
+unfolding recordingOf
+own-joined f = take-append-drop (startCount (trailerOf f .counts)) (levelBytes f (trailerOf f))
 
 -- ---- the theorems
 
@@ -258,34 +309,34 @@ pub written-by : (k : Check) (m n : ℕ) → writtenBy m k ≡ Written.Length n 
 written-by Check.Passed m n q = (refl, cc)
 written-by (Check.Failed r) m n q = let z : _≡_ {A = ℕ} 0 1 = cc in absurd (omega arith)
 
-read-written : (s : List ℕ) (c : Counts) (b out : List ℕ) (n : ℕ) → writtenOf s c b out ≡ Written.Length n
-    → (n ≡ length (fileOf s c b)) × (outAfterWriting s c b out ≡ fileOf s c b ++ drop n out)
-    × (readingOf (fileOf s c b) ≡ Reading.Accepted (record { start = 0; records = length s / 4; counts = c }))
-    × (recordsOf (fileOf s c b) ≡ s) × (startsOf (fileOf s c b) ≡ b)
+read-written : (s : List ℕ) (c : Counts) (b p out : List ℕ) (n : ℕ) → writtenOf s c b p out ≡ Written.Length n
+    → (n ≡ length (fileOf s c (b ++ p))) × (outAfterWriting s c b p out ≡ fileOf s c (b ++ p) ++ drop n out)
+    × (readingOf (fileOf s c (b ++ p)) ≡ Reading.Accepted (record { start = 0; records = length s / 4; counts = c }))
+    × (recordsOf (fileOf s c (b ++ p)) ≡ s) × (startsOf (fileOf s c (b ++ p)) ≡ b) × (postsOf (fileOf s c (b ++ p)) ≡ p)
 unfolding writtenOf writingCheck outAfterWriting
-read-written s c b out n q =
-    let (passed, long) = written-by (writingCheck s c b out) (fileLength s b) n q in
-    let (checked, _) = then-passed (recordsCheck s c b) _ passed in
-    let (accepted, records, starts, _) = written-accepted s c b checked in
-    (long ∙ sym (file-length s c b), rw (passed, long), accepted, records, starts)
+read-written s c b p out n q =
+    let (passed, long) = written-by (writingCheck s c b p out) (fileLength s (b ++ p)) n q in
+    let (checked, _) = then-passed (recordsCheck s c b p) _ passed in
+    let (accepted, records, starts, posts, _) = written-accepted s c b p checked in
+    (long ∙ sym (file-length s c (b ++ p)), rw (passed, long), accepted, records, starts, posts)
 
 write-read : (f : List ℕ) → Bytes f → (h : Trailer) → readingOf f ≡ Reading.Accepted h → h .start ≡ 0 → (out : List ℕ) → length f ≤ length out
-    → (writtenOf (recordsOf f) (h .counts) (startsOf f) out ≡ Written.Length (length f))
-    × (outAfterWriting (recordsOf f) (h .counts) (startsOf f) out ≡ f ++ drop (length f) out)
-unfolding recordsOf startsOf readingOf writtenOf outAfterWriting writingCheck
+    → (writtenOf (recordsOf f) (h .counts) (startsOf f) (postsOf f) out ≡ Written.Length (length f))
+    × (outAfterWriting (recordsOf f) (h .counts) (startsOf f) (postsOf f) out ≡ f ++ drop (length f) out)
+unfolding recordsOf startsOf postsOf readingOf writtenOf outAfterWriting writingCheck
 write-read f bytes h q none out room =
     let passed = reading-passed f h q in
     let ok = sound f passed in
     let own = trailer-read f h q in
     let s = recordBytes f (trailerOf f) in
     let c = trailerOf f .counts in
-    let b = levelBytes f (trailerOf f) in
-    let l = bytes-length f ok in
-    let again = written-again f bytes ok (ap (λ (x : Trailer). x .start) own ∙ none) in
-    let n = sym (file-length s c b) ∙ ap length again in
-    let checked : recordsCheck s c b ≡ Check.Passed = sym (same-check s c b (fits-of f ok) (own-starts f ok)) ∙ ap fileCheck again ∙ passed in
-    let roomy : leb (fileLength s b) (length out) ≡ true = le-leb (fileLength s b) (length out) (omega arith) in
+    let b = recordingOf f .levels .starts in
+    let p = recordingOf f .levels .posts in
+    let again : fileOf s c (b ++ p) ≡ f = ap (fileOf s c) (own-joined f) ∙ written-again f bytes ok (ap (λ (x : Trailer). x .start) own ∙ none) in
+    let n = sym (file-length s c (b ++ p)) ∙ ap length again in
+    let checked : recordsCheck s c b p ≡ Check.Passed = sym (same-check s c b p (fits-of f ok) (own-levels f ok)) ∙ ap fileCheck again ∙ passed in
+    let roomy : leb (fileLength s (b ++ p)) (length out) ≡ true = le-leb (fileLength s (b ++ p)) (length out) (omega arith) in
     rw (passed, sym own, checked, roomy, n, again) (refl, refl)
 
 pub round-trip : RoundTrip
-round-trip = record { read-written = read-written; write-read = write-read; same-refusals = λ s c b fit fits. same-check s c b fits fit }
+round-trip = record { read-written = read-written; write-read = write-read; same-refusals = λ s c b p fit fits. same-check s c b p fits fit }

@@ -1,6 +1,6 @@
--- What the four rules say of an admissible order: which events it must put before which.
+-- What the rules say of an admissible order: which events it must put before which.
 -- Assumes nothing.
-use Prim.Native.Nat.{ℕ, suc, _+_, _<_}
+use Prim.Native.Nat.{ℕ, suc, _+_, _≤_, _<_}
 use mathlib.Core.Path.{_≡_, refl, sym, ap, subst, _∙_}
 use mathlib.Core.Bool.{Bool, true, not, _&&_}
 use mathlib.Core.List.{List, [], _∷_}
@@ -9,7 +9,7 @@ use lib.Dec.{ltb, eqb}
 use lib.ListN.{length, getD, take}
 use Rattle.model.specs.declared.Event.{Event}
 use Rattle.model.specs.Numbers.{bit, tally, count}
-use Rattle.model.specs.Recording.{Levels, startOf, event, ofTask, isOn, isSignal, isWait, isFork, isJoin, notJoined, forkKept, joinKept, waitKept, lifeKept, obeys, Recording, size, taskOf, kindOf, objectOf, fork, join, wait}
+use Rattle.model.specs.Recording.{Levels, startOf, postOf, event, ofTask, isOn, isSignal, isWait, isFork, isJoin, isPost, notJoined, forkKept, joinKept, waitKept, flagKept, lifeKept, obeys, Recording, size, taskOf, kindOf, objectOf, fork, join, wait, flagWait}
 use Rattle.model.specs.Orders.{place, Precedes, occurrences, rearranged, Obeying, Admissible}
 use Rattle.model.proofs.Tests.{both, first, second, of-not, all-three, implied, tests, compared, eqb-true, eqb-false, eq-eqb, lt-ltb, ltb-true}
 use Rattle.model.proofs.Counting.{count-map}
@@ -19,14 +19,23 @@ use Rattle.model.proofs.Place.{take-map, at-map, place-lt, at-place, st
 -- ---- the parts of the rules
 
 module _ (x : Levels) (before : List Event) (v : Event) (h : obeys x before v ≡ true) where
+  parts : (lifeKept before v ≡ true) × (waitKept x before v ≡ true) × (flagKept x before v ≡ true)
+  unfolding obeys
+  parts = all-three (lifeKept before v) (waitKept x before v) (flagKept x before v) h
+
   life : (notJoined before v ≡ true) × (forkKept before v ≡ true) × (joinKept before v ≡ true)
-  unfolding obeys lifeKept
-  life = all-three _ _ _ (first (lifeKept before v) (waitKept x before v) h)
+  unfolding lifeKept
+  life = all-three _ _ _ (parts .0)
 
   -- at a wait the start count and the signals before it outnumber the waits on its semaphore before it
   wait-part : eqb (v .kind) wait ≡ true → count (isWait (v .object)) before < startOf x (v .object) + count (isSignal (v .object)) before
-  unfolding obeys waitKept
-  wait-part t = let more = implied (second (lifeKept before v) (waitKept x before v) h) t in omega tests
+  unfolding waitKept
+  wait-part t = let more = implied (parts .1) t in omega tests
+
+  -- at a flag wait the posts before it are at least its flag's post count
+  flag-part : eqb (v .kind) flagWait ≡ true → postOf x (v .object) ≤ count (isPost (v .object)) before
+  unfolding flagKept
+  flag-part t = let enough = implied (parts .2) t in omega tests
 
 pub kind-is : (k x : ℕ) (v : Event) → isOn k x v ≡ true → eqb (v .kind) k ≡ true
 kind-is k x v t = first (eqb (v .kind) k) (eqb (v .object) x) t
@@ -159,4 +168,12 @@ module _ (E : Recording) (o : List ℕ) (adm : Admissible E o) where
       let h = wait-part (E .levels) (earlier E o e) (event E e) (rule-at e l) t in
       let w = count-earlier E o (adm .once) (isWait (objectOf E e)) e in
       let s = count-earlier E o (adm .once) (isSignal (objectOf E e)) e in
+      omega arith
+
+  -- before a flag wait the posts are at least its flag's post count
+  pub flag-served : (e : ℕ) → e < size E → eqb (kindOf E e) flagWait ≡ true
+      → postOf (E .levels) (objectOf E e) ≤ tally (λ a. isPost (objectOf E e) (event E a) && sooner o a e) (size E)
+  flag-served e l t =
+      let h = flag-part (E .levels) (earlier E o e) (event E e) (rule-at e l) t in
+      let p = count-earlier E o (adm .once) (isPost (objectOf E e)) e in
       omega arith

@@ -2,15 +2,15 @@
 -- other. So of twins, what comes first in some order of the one does in some order of the other.
 -- Assumes nothing.
 use Prim.Native.Nat.{ℕ, suc, _+_, _≤_, _<_}
-use mathlib.Core.Path.{_≡_, refl, sym, ap, ap₂, subst, subst₂, _∙_}
+use mathlib.Core.Path.{_≡_, refl, sym, ap₂, subst, subst₂, _∙_}
 use mathlib.Core.Bool.{Bool, cond, _&&_}
 use mathlib.Core.List.{List, [], _∷_}
 use native.Mathlib.Omega.{arith}
-use lib.Dec.{ltb, eqb}
+use lib.Dec.{leb, ltb, eqb}
 use lib.ListN.{length, getD}
 use Rattle.model.specs.declared.Event.{Event}
 use Rattle.model.specs.Numbers.{bit, count}
-use Rattle.model.specs.Recording.{Levels, startOf, Recording, size, event, taskOf, wait, isSignal, isWait, implies, waitKept, lifeKept, obeys}
+use Rattle.model.specs.Recording.{Levels, startOf, postOf, Recording, size, event, taskOf, wait, flagWait, isSignal, isWait, isPost, implies, waitKept, flagKept, lifeKept, obeys}
 use Rattle.model.specs.Orders.{place, Precedes, occurrences, rearranged, Obeying, Admissible, Sometimes}
 use Rattle.model.specs.OneJob.{SameWork}
 use Rattle.model.proofs.Tests.{cases, bit-true, bit-false, ltb-true, ltb-false, lt-ltb, ne-eqb}
@@ -46,16 +46,17 @@ module _ (l m : List Event) where
 
 -- ---- the rules
 
--- of the levels they read the start counts alone
-obeys-same : (x y : Levels) → ((s : ℕ) → startOf x s ≡ startOf y s) → (before : List Event) (v : Event)
+-- of the levels they read the start counts and the post counts alone
+obeys-same : (x y : Levels) → ((s : ℕ) → startOf x s ≡ startOf y s) → ((g : ℕ) → postOf x g ≡ postOf y g) → (before : List Event) (v : Event)
     → obeys x before v ≡ obeys y before v
-unfolding obeys waitKept
-obeys-same x y same before v =
-    ap
-    (λ (n : ℕ).
+unfolding obeys waitKept flagKept
+obeys-same x y starts posts before v =
+    ap₂
+    (λ (n k : ℕ).
     lifeKept before v
-    && implies (eqb (v .kind) wait) (ltb (count (isWait (v .object)) before) (n + count (isSignal (v .object)) before)))
-    (same (v .object))
+    && implies (eqb (v .kind) wait) (ltb (count (isWait (v .object)) before) (n + count (isSignal (v .object)) before))
+    && implies (eqb (v .kind) flagWait) (leb k (count (isPost (v .object)) before)))
+    (starts (v .object)) (posts (v .object))
 
 -- ---- an order of F as one of E
 
@@ -95,7 +96,7 @@ module _ (E F : Recording) (same : SameWork E F) where
       moved-rules : Obeying (E .levels) (rearranged E o)
       moved-rules =
           subst (Obeying (E .levels)) (sym (alongside-map (event E) (event F) (λ a x w. w .same) twins))
-          (λ i h. obeys-same (E .levels) (F .levels) (same .starts) _ _ ∙ adm .rules i h)
+          (λ i h. obeys-same (E .levels) (F .levels) (same .starts) (same .posts) _ _ ∙ adm .rules i h)
 
       moved-admissible : Admissible E o
       moved-admissible = record { once = moved-once; own = moved-own; rules = moved-rules }

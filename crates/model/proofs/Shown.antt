@@ -13,7 +13,7 @@ use Rattle.model.specs.declared.Check.{Check}
 use Rattle.model.specs.declared.Reading.{Reading}
 use Rattle.model.specs.declared.Written.{Written}
 use Rattle.model.specs.Recording.{size, event, Accepted}
-use Rattle.model.specs.File.{trailerOf, recordBytes, levelBytes, recordingOf}
+use Rattle.model.specs.File.{trailerOf, recordBytes, levelBytes, recordingBy, recordingOf}
 use Rattle.model.specs.Reading.{fileCheck, readingOf}
 use Rattle.model.specs.Acceptable.{InRange}
 use Rattle.model.specs.Orders.{inOrder, Admissible}
@@ -22,7 +22,7 @@ use Rattle.model.specs.Recorded.{recorded}
 use Rattle.model.specs.Pairs.{conflict, OnList}
 use Rattle.model.specs.Analysing.{workFits}
 use Rattle.model.specs.Question.{twoEvents, askedCheck, questionCheck}
-use Rattle.model.specs.Writing.{recordsIn}
+use Rattle.model.specs.Writing.{recordsIn, fileIn}
 use Rattle.model.specs.Reversed.{bringForward, reversedFile, reversedLength, reversedCheck, reversedOf, outAfterReversing}
 use Rattle.model.specs.Shown.{Shows, Shown}
 use Rattle.model.proofs.Tests.{of-not, to-not, both, all-three, le-leb, lt-ltb, ltb-true, eqb-false, ne-eqb}
@@ -32,7 +32,7 @@ use Rattle.model.proofs.Forward.{forward-admissible}
 use Rattle.model.proofs.Files.{Sound, sound, reading-passed, bytes-length, size-records}
 use Rattle.model.proofs.Acceptable.{known, ranged}
 use Rattle.model.proofs.Promise.{Free, free-turned, sure-free, free-first, free-listed}
-use Rattle.model.proofs.RoundTrip.{file-length, own-starts, written-by}
+use Rattle.model.proofs.RoundTrip.{file-length, own-levels, own-joined, written-by}
 use Rattle.model.proofs.Picking.{Within, in-length, obeying-accepted, accepted-in}
 
 -- ---- the file that is written
@@ -63,10 +63,19 @@ module _ (f : List ℕ) (ok : Sound f) (x : ℕ) (inside : x < size (recordingOf
   unfolding reversedFile recordingOf
   accepted =
       let within : Within (size (recordingOf f)) (order f x) = λ i l. element (size (recordingOf f)) (order f x) (admissible .once) i l .0 in
+      let s = recordBytes f (trailerOf f) in
       let c = trailerOf f .counts in
-      accepted-in (recordBytes f (trailerOf f)) (order f x) within c (levelBytes f (trailerOf f)) (known c (ok .some-edition) (ok .no-later))
-      (ranged c (length (order f x)) (subst (InRange c) (sym order-length) (ok .range))) (own-starts f ok)
-      (obeying-accepted (recordingOf f) (ok .accepted) (order f x) within (admissible .rules))
+      let b = recordingOf f .levels .starts in
+      let p = recordingOf f .levels .posts in
+      subst
+      (λ (l : List ℕ).
+      (readingOf (fileIn s (order f x) c l) ≡ Reading.Accepted (record { start = 0; records = length (order f x); counts = c }))
+      × (recordingOf (fileIn s (order f x) c l) ≡ inOrder (recordingBy s c l) (order f x)))
+      (own-joined f)
+      (accepted-in s (order f x) within c b p (known c (ok .some-edition) (ok .no-later))
+      (ranged c (length (order f x)) (subst (InRange c) (sym order-length) (ok .range))) (ok .posts) (own-levels f ok)
+      (subst (λ (l : List ℕ). Accepted (inOrder (recordingBy s c l) (order f x))) (sym (own-joined f))
+      (obeying-accepted (recordingOf f) (ok .accepted) (order f x) within (admissible .rules))))
 
   shows : (y : ℕ) → Free (recordingOf f) x y → Shows f x y (reversedFile f x)
   shows y r =

@@ -3,24 +3,24 @@
 use Prim.Native.Nat.{ℕ, zero, suc, _≤_, _<_, max, zero-le}
 use mathlib.Core.Path.{_≡_, refl, sym, ap, subst, _∙_}
 use mathlib.Core.Bool.{Bool, true, false, cond, not, _&&_}
-use mathlib.Core.List.{List, [], _∷_, map, List·Memᴰ, List·Memᴰ·cases-cons}
+use mathlib.Core.List.{List, [], _∷_, List·Memᴰ, List·Memᴰ·cases-cons}
 use mathlib.Core.Logic.{_⊎_, inl, inr}
 use native.Mathlib.Nat.{le-refl, le-trans, le-of-eq}
 use native.Mathlib.Omega.{arith}
 use lib.Dec.{leb, ltb, eqb}
 use lib.ListN.{length, getD, set, length-set}
-use Rattle.model.specs.Numbers.{tally, count, largest, kthLeast, listOf, picked}
-use Rattle.model.specs.Recording.{event, ofTask, isSignal, isWait, Recording, size, taskOf, kindOf, objectOf, tasks, wait}
+use Rattle.model.specs.Numbers.{tally, count, largest, listOf, picked}
+use Rattle.model.specs.Recording.{event, ofTask, isOn, isWait, Recording, size, taskOf, kindOf, objectOf, tasks, wait, flagWait}
 use Rattle.model.specs.Orders.{place, Precedes, Admissible}
 use Rattle.model.specs.Vectors.{position, Vectors, number, ordered, start}
-use Rattle.model.specs.Passes.{sources, gathered, stepOne, signalsOn, waitsOn, kWhere, needed, candidates, served, raised, passTo, pass}
+use Rattle.model.specs.Passes.{sources, gathered, stepOne, eventsOn, kOf, postWhere, kWhere, needed, serving, candidates, kthAmong, served, raised, passTo, pass}
 use Rattle.model.proofs.Tests.{cases, fails, of-not, to-not, both, first, second, and-alike, and-fails, tests, compared, leb-true, le-leb, lt-ltb, ltb-true, eqb-true, eqb-false, eq-eqb}
 use Rattle.model.proofs.Sum.{tally-le, tally-ext, tally-lt, tally-cut}
 use Rattle.model.proofs.Counting.{count-filter, count-le, count-length, filter-mem}
 use Rattle.model.proofs.Least.{max-with, largest-with, kth-zero, kth-reached}
 use Rattle.model.proofs.Picked.{picked-mem, count-picked}
 use Rattle.model.proofs.Lists.{listOf-at, listOf-length, row-with, number-set-same, number-set-other}
-use Rattle.model.proofs.Rules.{sooner, turned, wait-served}
+use Rattle.model.proofs.Rules.{sooner, turned, wait-served, flag-served}
 use Rattle.model.proofs.Sources.{source-of, source-precedes}
 
 -- how many events of task t the order puts at or before e
@@ -31,11 +31,15 @@ seen E o e t = tally (λ a. ofTask t (event E a) && leb (place o a) (place o e))
 abbrev pub Safe : Recording → List ℕ → Vectors → Type 0
 Safe E o X = (e t : ℕ) → e < size E → number X e t ≤ seen E o e t
 
+-- s is a signal on the semaphore of a wait e, a post on the flag of a flag wait e
+abbrev serves : Recording → ℕ → ℕ → Bool
+serves E e s = isOn (serving (kindOf E e)) (objectOf E e) (event E s)
+
 -- a candidate is an event of the file
 candidate-inside : (E : Recording) (X : Vectors) (e s : ℕ) → List·Memᴰ s (candidates E X e) → s < size E
-unfolding candidates signalsOn
+unfolding candidates eventsOn
 candidate-inside E X e s m =
-    picked-mem (λ a. isSignal (objectOf E e) (event E a)) s (size E) (filter-mem _ (signalsOn (E .events) (objectOf E e)) m .0) .0
+    picked-mem (serves E e) s (size E) (filter-mem _ (eventsOn (E .events) (serving (kindOf E e)) (objectOf E e)) m .0) .0
 
 -- ---- lengths: one vector for each event
 
@@ -123,59 +127,68 @@ module _ (E : Recording) (o : List ℕ) (adm : Admissible E o) where
       each s (inl q) = le-trans (le-of-eq (ap (λ (x : ℕ). number X x t) q)) (safe e t l)
       each s (inr k) = let (a, b) = h s k in le-trans (safe s t a) (seen-mono s e t (omega arith))
 
-  -- a signal on e's semaphore that the order puts before e
-  abbrev sooner-signal : ℕ → ℕ → Bool
-  sooner-signal e s = isSignal (objectOf E e) (event E s) && sooner o s e
+  -- such an event that the order puts before e
+  abbrev sooner-serves : ℕ → ℕ → Bool
+  sooner-serves e s = serves E e s && sooner o s e
 
-  -- the order puts at least k signals before a wait
-  needed-served : (X : Vectors) → Safe E o X → (e : ℕ) → e < size E → needed E X e ≤ tally (sooner-signal e) (size E)
-  unfolding needed waitsOn
+  -- the order puts at least k of them before e
+  needed-served : (X : Vectors) → Safe E o X → (e : ℕ) → e < size E → needed E X e ≤ tally (sooner-serves e) (size E)
+  unfolding needed eventsOn
   needed-served X safe e l = go (eqb (kindOf E e) wait) refl
     where
       own : ℕ → Bool
       own a = isWait (objectOf E e) (event E a)
 
-      go : (b : Bool) → eqb (kindOf E e) wait ≡ b → kWhere E X e b ≤ tally (sooner-signal e) (size E)
-      go false q = zero-le
+      -- those before e that serve an event of kind k
+      before : ℕ → ℕ
+      before k = tally (λ s. isOn (serving k) (objectOf E e) (event E s) && sooner o s e) (size E)
+
+      flag : (b : Bool) → eqb (kindOf E e) flagWait ≡ b → postWhere E e b ≤ before (kindOf E e)
+      flag false q = zero-le
+      flag true q =
+          let enough = flag-served E o adm e l q in
+          subst (λ (k : ℕ). postWhere E e true ≤ before k) (sym (eqb-true (kindOf E e) flagWait q)) (omega arith)
+
+      go : (b : Bool) → eqb (kindOf E e) wait ≡ b → kWhere E X e b ≤ before (kindOf E e)
+      go false q = flag (eqb (kindOf E e) flagWait) refl
       go true q =
-          let waits = count-picked own (λ w. ordered (E .events) X w e) (size E) in
+          subst (λ (k : ℕ). kOf E X e (objectOf E e) ≤ before k) (sym (eqb-true (kindOf E e) wait q))
+          (let waits = count-picked own (λ w. ordered (E .events) X w e) (size E) in
           let fewer = tally-le (λ w. own w && ordered (E .events) X w e) (λ w. own w && sooner o w e) (size E)
           (λ a k u. both (first (own a) (ordered (E .events) X a e) u) (lt-ltb _ _ (ordered-precedes X safe a e k l (second (own a) (ordered (E .events) X a e) u)))) in
-          let more = wait-served E o adm e l q in omega arith
+          let more = wait-served E o adm e l q in omega arith)
 
   -- and each of them is a candidate
-  sooner-candidates : (X : Vectors) → Safe E o X → (e : ℕ) → e < size E → tally (sooner-signal e) (size E) ≤ count (sooner-signal e) (candidates E X e)
-  unfolding candidates signalsOn
+  sooner-candidates : (X : Vectors) → Safe E o X → (e : ℕ) → e < size E → tally (sooner-serves e) (size E) ≤ count (sooner-serves e) (candidates E X e)
+  unfolding candidates eventsOn
   sooner-candidates X safe e l =
       le-trans
-      (tally-le (sooner-signal e) (λ s. signal s && (not (ordered (E .events) X e s) && sooner-signal e s)) (size E)
-      (λ s k q. both (first (signal s) _ q) (both (possible s k q) q)))
+      (tally-le (sooner-serves e) (λ s. serves E e s && (not (ordered (E .events) X e s) && sooner-serves e s)) (size E)
+      (λ s k q. both (first (serves E e s) _ q) (both (possible s k q) q)))
       (le-of-eq
       (sym
-      (count-filter (sooner-signal e) (λ s. not (ordered (E .events) X e s)) (picked signal (size E))
-      ∙ count-picked signal (λ s. not (ordered (E .events) X e s) && sooner-signal e s) (size E))))
+      (count-filter (sooner-serves e) (λ s. not (ordered (E .events) X e s)) (picked (serves E e) (size E))
+      ∙ count-picked (serves E e) (λ s. not (ordered (E .events) X e s) && sooner-serves e s) (size E))))
     where
-      signal : ℕ → Bool
-      signal s = isSignal (objectOf E e) (event E s)
-
-      possible : (s : ℕ) → s < size E → sooner-signal e s ≡ true → not (ordered (E .events) X e s) ≡ true
+      possible : (s : ℕ) → s < size E → sooner-serves e s ≡ true → not (ordered (E .events) X e s) ≡ true
       possible s k q =
           to-not
           (fails (ordered (E .events) X e s)
           (λ u.
           let a = ordered-precedes X safe e s l k u in
-          let b = ltb-true (place o s) (place o e) (second (signal s) _ q) in omega arith))
+          let b = ltb-true (place o s) (place o e) (second (serves E e s) _ q) in omega arith))
 
   -- so in an accepted file fewer than k candidates never happens
   pub enough : (X : Vectors) → Safe E o X → (e : ℕ) → e < size E → needed E X e ≤ length (candidates E X e)
   enough X safe e l =
       let a = needed-served X safe e l in
       let b = sooner-candidates X safe e l in
-      let c = count-length (sooner-signal e) (candidates E X e) in omega arith
+      let c = count-length (sooner-serves e) (candidates E X e) in omega arith
 
   -- raising is safe for any k and any candidates of which the order puts at least k before e
   pub kth-safe : (X : Vectors) → Safe E o X → (e t k : ℕ) (l : List ℕ) → ((s : ℕ) → List·Memᴰ s l → s < size E)
-      → k ≤ count (λ s. sooner o s e) l → kthLeast k (map (λ s. number X s t) l) ≤ seen E o e t
+      → k ≤ count (λ s. sooner o s e) l → kthAmong X k l t ≤ seen E o e t
+  unfolding kthAmong
   kth-safe X safe e t zero l inside many = rw kth-zero zero-le
   kth-safe X safe e t (suc k) l inside many =
       let (c, m, u, v) = kth-reached (suc k) (λ s. number X s t) (λ s. sooner o s e) l (omega arith) many in
@@ -189,7 +202,7 @@ module _ (E : Recording) (o : List ℕ) (adm : Admissible E o) where
       kth-safe X safe e t (needed E X e) (candidates E X e) (λ s m. candidate-inside E X e s m)
       (let a = needed-served X safe e l in
       let b = sooner-candidates X safe e l in
-      let c = count-le (sooner-signal e) (λ s. sooner o s e) (candidates E X e) (λ s q. second (isSignal (objectOf E e) (event E s)) _ q) in
+      let c = count-le (sooner-serves e) (λ s. sooner o s e) (candidates E X e) (λ s q. second (serves E e s) _ q) in
       omega arith)
 
   pub step-one : (X : Vectors) (e : ℕ) → e < size E → length X ≡ size E → Safe E o X → Safe E o (stepOne E X e)

@@ -86,10 +86,10 @@ module _ (l m : List Event) where
       t ∙ sym (eq-eqb x y (twin-one m l x y a (twin-sym l m a x v) (twin-sym l m a y u))))
       (λ t. t ∙ sym (ne-eqb x y (λ q. eqb-false a b t (twin-one l m a b x v (subst (Twin l m b) (sym q) w)))))
 
-  -- twins are alike: one is of a kind on an event's object where its twin is so on the object of that event's twin
-  pub twin-on : (k e x a y : ℕ) → Twin l m e x → Twin l m a y
-      → isOn k (eventIn l e .object) (eventIn l a) ≡ isOn k (eventIn m x .object) (eventIn m y)
-  twin-on k e x a y w v = ap₂ (λ (u r : Event). isOn k (u .object) r) (w .same) (v .same)
+  -- twins are alike: one is of the kind k that an event asks for, on its object, where its twin is so for that event's twin
+  pub twin-on : (k : Event → ℕ) (e x a y : ℕ) → Twin l m e x → Twin l m a y
+      → isOn (k (eventIn l e)) (eventIn l e .object) (eventIn l a) ≡ isOn (k (eventIn m x)) (eventIn m x .object) (eventIn m y)
+  twin-on k e x a y w v = ap₂ (λ (u r : Event). isOn (k u) (u .object) r) (w .same) (v .same)
 
   -- and their pairs have the same name
   pub twin-name : (a b x y i j : ℕ) → Twin l m a x → Twin l m b y

@@ -1,22 +1,22 @@
 -- Comparing two accepted recordings passes exactly where they are the same work: no record is of a task beyond the tasks, and no
--- start count is given beyond the semaphores.
+-- start count or post count is given beyond the semaphores or the flags.
 -- Assumes nothing.
 use Prim.Native.Nat.{ℕ, zero, suc, _+_, _*_, _≤_, _<_, zero-le}
 use mathlib.Core.Path.{_≡_, refl, sym, ap, ap₂, subst, _∙_}
-use mathlib.Core.Bool.{Bool, true, false, cond}
+use mathlib.Core.Bool.{Bool, true, false, cond, _&&_}
 use mathlib.Core.Logic.{_↔_}
 use mathlib.Core.List.{List, [], _∷_, List·Memᴰ, List·Memᴰ·head, List·Memᴰ·tail, Memᴰ·of-map, map}
 use native.Mathlib.Nat.{le-refl, not-suc-le-zero}
 use native.Mathlib.Omega.{arith}
 use lib.Dec.{ltb, eqb}
-use lib.ListN.{length, drop, length-take, List·getD-eq-default}
+use lib.ListN.{length, getD, drop, length-take, length-drop, List·getD-eq-default}
 use Rattle.model.specs.declared.Event.{Event}
 use Rattle.model.specs.declared.Check.{Check}
 use Rattle.model.specs.Numbers.{picked}
-use Rattle.model.specs.Recording.{Levels, startOf, Recording, size, tasks, event, eventIn, taskOf, ofTask, Accepted}
-use Rattle.model.specs.File.{trailerOf, levelCount, levelBytes, recordingOf}
+use Rattle.model.specs.Recording.{Recording, size, tasks, event, eventIn, taskOf, ofTask, semaphoresOf, flagsOf, Accepted}
+use Rattle.model.specs.File.{trailerOf, startCount, levelCount, levelBytes, recordingOf}
 use Rattle.model.specs.Pairs.{ownEvents}
-use Rattle.model.specs.Together.{sameCounts, sameStarts, ownRecords, sameRecord, recordsAlike, tasksAlike, workAlike}
+use Rattle.model.specs.Together.{sameCounts, sameLevels, ownRecords, sameRecord, recordsAlike, tasksAlike, workAlike}
 use Rattle.model.specs.OneJob.{SameWork}
 use Rattle.model.proofs.Tests.{cases, both, first, second, all-three, last-or-lower, ltb-true, ltb-false, eqb-true, eq-eqb, ne-eqb}
 use Rattle.model.proofs.Checks.{failed-passed, unless-passed, then-passed}
@@ -24,32 +24,52 @@ use Rattle.model.proofs.Each.{each-none}
 use Rattle.model.proofs.Picked.{picked-mem}
 use Rattle.model.proofs.Accept.{task-inside}
 
--- ---- start counts
+-- what is the same below n, and beyond it nothing in either
+everywhere : {A : Type 0} (f g : ℕ → A) (n : ℕ) {d : A}
+    → ((i : ℕ) → i < n → f i ≡ g i) → ((i : ℕ) → n ≤ i → f i ≡ d) → ((i : ℕ) → n ≤ i → g i ≡ d) → (i : ℕ) → f i ≡ g i
+everywhere f g n h p q i =
+    cases (ltb i n) (λ t. h i (ltb-true i n t)) (λ t. p i (ltb-false i n t) ∙ sym (q i (ltb-false i n t)))
 
-starts-same : (x y : Levels) (n : ℕ) → sameStarts x y n ≡ true → (s : ℕ) → s < n → startOf x s ≡ startOf y s
-unfolding sameStarts
-starts-same x y zero h s l = absurd (not-suc-le-zero l)
-starts-same x y (suc n) h s l =
-    last-or-lower l (λ e. subst (λ (i : ℕ). startOf x i ≡ startOf y i) (sym e) (eqb-true _ _ (second (sameStarts x y n) _ h)))
-    (λ k. starts-same x y n (first (sameStarts x y n) _ h) s k)
+-- ---- start counts and post counts
 
-starts-pass : (x y : Levels) → ((s : ℕ) → startOf x s ≡ startOf y s) → (n : ℕ) → sameStarts x y n ≡ true
-unfolding sameStarts
-starts-pass x y h zero = refl
-starts-pass x y h (suc n) = both (starts-pass x y h n) (eq-eqb _ _ (h n))
+levels-same : (x y : List ℕ) (n : ℕ) → sameLevels x y n ≡ true → (i : ℕ) → i < n → getD x i 0 ≡ getD y i 0
+unfolding sameLevels
+levels-same x y zero h i l = absurd (not-suc-le-zero l)
+levels-same x y (suc n) h i l =
+    last-or-lower l (λ e. subst (λ (j : ℕ). getD x j 0 ≡ getD y j 0) (sym e) (eqb-true _ _ (second (sameLevels x y n) _ h)))
+    (λ k. levels-same x y n (first (sameLevels x y n) _ h) i k)
 
--- a file gives none beyond its semaphores
-no-start : (f : List ℕ) (s : ℕ) → recordingOf f .counts .semaphores ≤ s → startOf (recordingOf f .levels) s ≡ 0
-unfolding recordingOf levelBytes levelCount
-no-start f s h =
-    let r = trailerOf f in
-    let n = length-take (levelCount (r .counts)) (drop (r .start + 4 * r .records) f) in
-    let k = few (eqb (r .counts .edition) 1) (r .counts .semaphores) in
-    List·getD-eq-default (levelBytes f r) 0 (omega arith)
-  where
-    few : (b : Bool) (n : ℕ) → cond b 0 n ≤ n
-    few true n = zero-le
-    few false n = le-refl n
+levels-pass : (x y : List ℕ) → ((i : ℕ) → getD x i 0 ≡ getD y i 0) → (n : ℕ) → sameLevels x y n ≡ true
+unfolding sameLevels
+levels-pass x y h zero = refl
+levels-pass x y h (suc n) = both (levels-pass x y h n) (eq-eqb _ _ (h n))
+
+-- a file gives no more start bytes than semaphores, and no more post bytes than flags
+module _ (f : List ℕ) where
+  few-starts : length (recordingOf f .levels .starts) ≤ semaphoresOf (trailerOf f .counts)
+  unfolding recordingOf startCount
+  few-starts =
+      let c = trailerOf f .counts in
+      let n = length-take (startCount c) (levelBytes f (trailerOf f)) in
+      let k = few (eqb (c .edition) 1) (semaphoresOf c) in omega arith
+    where
+      few : (b : Bool) (n : ℕ) → cond b 0 n ≤ n
+      few true n = zero-le
+      few false n = le-refl n
+
+  few-posts : length (recordingOf f .levels .posts) ≤ flagsOf (trailerOf f .counts)
+  unfolding recordingOf levelBytes levelCount
+  few-posts =
+      let r = trailerOf f in
+      let c = r .counts in
+      let n = length-drop (startCount c) (levelBytes f r) in
+      let k = length-take (levelCount c) (drop (r .start + 4 * r .records) f) in omega arith
+
+-- so where these are as many, they are the same everywhere
+all-same : (x y : List ℕ) (n m : ℕ) → n ≡ m → length x ≤ n → length y ≤ m → sameLevels x y n ≡ true → (i : ℕ) → getD x i 0 ≡ getD y i 0
+all-same x y n m q few other h =
+    everywhere (λ i. getD x i 0) (λ i. getD y i 0) n (levels-same x y n h) (λ i l. List·getD-eq-default x 0 (omega arith))
+    (λ i l. List·getD-eq-default y 0 (omega arith))
 
 -- ---- records
 
@@ -106,41 +126,38 @@ module _ (l m : List Event) where
 
 -- ---- the whole
 
--- what is the same below n, and beyond it nothing in either
-everywhere : {A : Type 0} (f g : ℕ → A) (n : ℕ) {d : A}
-    → ((i : ℕ) → i < n → f i ≡ g i) → ((i : ℕ) → n ≤ i → f i ≡ d) → ((i : ℕ) → n ≤ i → g i ≡ d) → (i : ℕ) → f i ≡ g i
-everywhere f g n h p q i =
-    cases (ltb i n) (λ t. h i (ltb-true i n t)) (λ t. p i (ltb-false i n t) ∙ sym (q i (ltb-false i n t)))
-
 same-work : (f g : List ℕ) → let E = recordingOf f in
     let F = recordingOf g in Accepted E → Accepted F → workAlike E F ≡ Check.Passed → SameWork E F
-unfolding workAlike sameCounts
+unfolding workAlike sameCounts recordingOf
 same-work f g accE accF q =
     let E = recordingOf f in
     let F = recordingOf g in
-    let N = E .counts .semaphores in
     let (c, r) = unless-passed (sameCounts (E .counts) (F .counts)) _ _ q in
-    let (s, k) = unless-passed (sameStarts (E .levels) (F .levels) N) _ _ r in
-    let (t, n, d) = all-three _ _ _ c in
+    let (s, k) = unless-passed (sameLevels (E .levels .starts) (F .levels .starts) (semaphoresOf (E .counts))) _ _ r in
+    let (p, m) = unless-passed (sameLevels (E .levels .posts) (F .levels .posts) (flagsOf (E .counts))) _ _ k in
+    let same = eqb (E .counts .tasks) (F .counts .tasks) && eqb (semaphoresOf (E .counts)) (semaphoresOf (F .counts)) && eqb (flagsOf (E .counts)) (flagsOf (F .counts)) in
+    let (t, n, b) = all-three _ _ _ (first same _ c) in
     let i = eqb-true _ _ t in
     let j = eqb-true _ _ n in
+    let o = eqb-true _ _ b in
     record {
       tasks = i;
       semaphores = j;
-      cells = eqb-true _ _ d;
-      starts =
-          everywhere (startOf (E .levels)) (startOf (F .levels)) N (starts-same (E .levels) (F .levels) N s) (no-start f)
-          (λ s h. no-start g s (omega arith));
+      flags = o;
+      cells = eqb-true _ _ (second same _ c);
+      starts = all-same (E .levels .starts) (F .levels .starts) (semaphoresOf (E .counts)) (semaphoresOf (F .counts)) j (few-starts f) (few-starts g) s;
+      posts = all-same (E .levels .posts) (F .levels .posts) (flagsOf (E .counts)) (flagsOf (F .counts)) o (few-posts f) (few-posts g) p;
       records =
-          everywhere (ownRecords (E .events)) (ownRecords (F .events)) (tasks E) (tasks-same (E .events) (F .events) (tasks E) k)
+          everywhere (ownRecords (E .events)) (ownRecords (F .events)) (tasks E) (tasks-same (E .events) (F .events) (tasks E) m)
           (no-records E accE) (λ t h. no-records F accF t (omega arith));
     }
 
 work-passes : (E F : Recording) → SameWork E F → workAlike E F ≡ Check.Passed
 unfolding workAlike sameCounts
 work-passes E F w =
-    let starts = starts-pass (E .levels) (F .levels) (w .starts) (E .counts .semaphores) in
-    rw (eq-eqb _ _ (w .tasks), eq-eqb _ _ (w .semaphores), eq-eqb _ _ (w .cells), starts)
+    let starts = levels-pass (E .levels .starts) (F .levels .starts) (w .starts) (semaphoresOf (E .counts)) in
+    let posts = levels-pass (E .levels .posts) (F .levels .posts) (w .posts) (flagsOf (E .counts)) in
+    rw (eq-eqb _ _ (w .tasks), eq-eqb _ _ (w .semaphores), eq-eqb _ _ (w .flags), eq-eqb _ _ (w .cells), starts, posts)
     (tasks-pass (E .events) (F .events) (w .records) (tasks E))
 
 pub work-alike : (f g : List ℕ) → let E = recordingOf f in

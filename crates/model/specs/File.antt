@@ -1,5 +1,5 @@
--- The recording file (document 01, The recording file; 02, No. 1): a preamble, records of 4 bytes, in edition 2 a byte for each
--- semaphore, a trailer of 16 bytes.
+-- The recording file (document 01, The recording file; 02, No. 1 and 6): a preamble, records of 4 bytes, from edition 2 on a byte for
+-- each semaphore, in edition 3 a byte for each flag, a trailer of 16 bytes.
 -- Numbers are little-endian. Past the end of a list of bytes a byte counts as 0.
 -- Assumes nothing.
 use Prim.Native.Nat.{ℕ, _+_, _-_, _*_, _/_}
@@ -11,7 +11,7 @@ use Rattle.model.specs.declared.Event.{Event}
 use Rattle.model.specs.declared.Counts.{Counts}
 use Rattle.model.specs.declared.Trailer.{Trailer}
 use Rattle.model.specs.Numbers.{listOf}
-use Rattle.model.specs.Recording.{Levels, Recording}
+use Rattle.model.specs.Recording.{Levels, Recording, semaphoresOf, flagsOf}
 
 -- the number of two bytes at i
 unfoldable pub u16At : List ℕ → ℕ → ℕ
@@ -33,7 +33,7 @@ eventsOf s = listOf (eventAt s) (length s / 4)
 abbrev pub trailerAt : List ℕ → ℕ
 trailerAt f = length f - 16
 
--- the trailer: start (4), N (4), tasks (2), semaphores (2), cells (2), edition (2)
+-- the trailer: start (4), N (4), tasks (2), semaphores and flags (2), cells (2), edition (2)
 unfoldable pub trailerOf : List ℕ → Trailer
 trailerOf f =
     record {
@@ -52,21 +52,25 @@ trailerOf f =
 unfoldable pub recordBytes : List ℕ → Trailer → List ℕ
 recordBytes f h = take (4 * h .records) (drop (h .start) f)
 
--- how many level bytes stand between the last record and the trailer: in edition 1 none, in edition 2 one for each semaphore
+-- how many start bytes a file has: in edition 1 none, from edition 2 on one for each semaphore
+unfoldable pub startCount : Counts → ℕ
+startCount c = cond (eqb (c .edition) 1) 0 (semaphoresOf c)
+
+-- how many level bytes stand between the last record and the trailer: the start bytes, then a post byte for each flag
 unfoldable pub levelCount : Counts → ℕ
-levelCount c = cond (eqb (c .edition) 1) 0 (c .semaphores)
+levelCount c = startCount c + flagsOf c
 
 -- that part of a file with this trailer
 unfoldable pub levelBytes : List ℕ → Trailer → List ℕ
 levelBytes f h = take (levelCount (h .counts)) (drop (h .start + 4 * h .records) f)
 
 -- the levels that these bytes give
-abbrev pub levelsBy : List ℕ → Levels
-levelsBy b = record { starts = b }
+abbrev pub levelsBy : Counts → List ℕ → Levels
+levelsBy c b = record { starts = take (startCount c) b; posts = drop (startCount c) b }
 
 -- the recording of these record bytes, counts and level bytes
 abbrev pub recordingBy : List ℕ → Counts → List ℕ → Recording
-recordingBy s c b = record { counts = c; levels = levelsBy b; events = eventsOf s }
+recordingBy s c b = record { counts = c; levels = levelsBy c b; events = eventsOf s }
 
 -- the recording that a file holds
 unfoldable pub recordingOf : List ℕ → Recording

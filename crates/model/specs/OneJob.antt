@@ -10,7 +10,7 @@ use Rattle.model.specs.declared.Trailer.{Trailer}
 use Rattle.model.specs.declared.Found.{Found}
 use Rattle.model.specs.declared.Check.{Check}
 use Rattle.model.specs.declared.Reading.{Reading}
-use Rattle.model.specs.Recording.{startOf, Recording, size, tasks, cells, event}
+use Rattle.model.specs.Recording.{startOf, postOf, Recording, size, tasks, cells, semaphoresOf, flagsOf, event}
 use Rattle.model.specs.File.{recordingOf}
 use Rattle.model.specs.Reading.{readingOf}
 use Rattle.model.specs.Orders.{Always, Sometimes}
@@ -19,12 +19,15 @@ use Rattle.model.specs.Passes.{safeVectors, isSettled}
 use Rattle.model.specs.Pairs.{conflict}
 use Rattle.model.specs.Together.{ownRecords, workAlike, atPosition, Named, nameOf, namedPairs, settledPairs, jointMark, jointList}
 
--- the same work: the same tasks, semaphores, cells and start counts, and each task has the same kinds and objects in the same order
+-- the same work: the same tasks, semaphores, flags and cells, the same start counts and post counts, and each task has the same kinds
+-- and objects in the same order
 pub record SameWork (E F : Recording) : Type 0 where
   pub tasks : tasks E ≡ tasks F
-  pub semaphores : E .counts .semaphores ≡ F .counts .semaphores
+  pub semaphores : semaphoresOf (E .counts) ≡ semaphoresOf (F .counts)
+  pub flags : flagsOf (E .counts) ≡ flagsOf (F .counts)
   pub cells : cells E ≡ cells F
   pub starts : (s : ℕ) → startOf (E .levels) s ≡ startOf (F .levels) s
+  pub posts : (g : ℕ) → postOf (E .levels) g ≡ postOf (F .levels) g
   pub records : (t : ℕ) → ownRecords (E .events) t ≡ ownRecords (F .events) t
 
 -- the number for task u of an event that was looked for; 0 where there is none

@@ -35,7 +35,7 @@ rearranged E o = map (event E) o
 abbrev pub inOrder : Recording → List ℕ → Recording
 inOrder E o = record { counts = E .counts; levels = E .levels; events = rearranged E o }
 
--- each record obeys the four rules after those before it
+-- each record obeys the rules after those before it
 abbrev pub Obeying : Levels → List Event → Type 0
 Obeying x l = (i : ℕ) → i < length l → obeys x (take i l) (getD l i noEvent) ≡ true
 

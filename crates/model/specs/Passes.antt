@@ -1,14 +1,14 @@
--- Passes and safe vectors (document 01; 02, No. 1).
+-- Passes and safe vectors (document 01; 02, No. 1 and 6).
 -- Assumes nothing.
 use Prim.Native.Nat.{ℕ, zero, suc, _+_, _-_, _*_, max}
-use mathlib.Core.Bool.{Bool, true, false, not, _&&_}
+use mathlib.Core.Bool.{Bool, true, false, cond, not, _&&_}
 use mathlib.Core.List.{List, [], _∷_, _++_, map}
 use lib.Dec.{eqb}
 use lib.ListN.{length, set}
 use Rattle.model.specs.declared.Event.{Event}
 use Rattle.model.specs.declared.Found.{Found}
 use Rattle.model.specs.Numbers.{count, filter, listOf, picked, lastOf, found, largest, kthLeast}
-use Rattle.model.specs.Recording.{startOf, Recording, size, tasks, eventIn, kindOf, objectOf, wait, join, ofTask, isSignal, isWait, isFork}
+use Rattle.model.specs.Recording.{startOf, postOf, Recording, size, tasks, eventIn, kindOf, objectOf, signal, wait, join, post, flagWait, ofTask, isOn, isFork}
 use Rattle.model.specs.Vectors.{Vectors, number, start, ordered}
 
 -- ---- step 1: the events whose vectors e takes the largest of
@@ -50,35 +50,55 @@ gathered E X from e = listOf (λ t. largest (λ s. number X s t) (e ∷ from)) (
 unfoldable pub stepOne : Recording → Vectors → ℕ → Vectors
 stepOne E X e = set X e (gathered E X (sources (E .events) e) e)
 
--- ---- step 2: a wait
+-- ---- step 2: a wait of either kind is raised to the k-th least of its candidates
 
--- the signals on semaphore s, and the waits on it, in file order
-unfoldable pub signalsOn : List Event → ℕ → List ℕ
-signalsOn l s = picked (λ a. isSignal s (eventIn l a)) (length l)
+-- the events of kind k on the object x, in file order
+unfoldable pub eventsOn : List Event → ℕ → ℕ → List ℕ
+eventsOn l k x = picked (λ a. isOn k x (eventIn l a)) (length l)
 
-unfoldable pub waitsOn : List Event → ℕ → List ℕ
-waitsOn l s = picked (λ a. isWait s (eventIn l a)) (length l)
+-- the signals on semaphore s, the waits on it, and the posts on flag g
+abbrev pub signalsOn : List Event → ℕ → List ℕ
+signalsOn l s = eventsOn l signal s
+
+abbrev pub waitsOn : List Event → ℕ → List ℕ
+waitsOn l s = eventsOn l wait s
+
+abbrev pub postsOn : List Event → ℕ → List ℕ
+postsOn l g = eventsOn l post g
 
 -- k of a wait e on s: 1 plus the waits on s ordered before e, lowered by the start count of s; 0, which raises nothing, where that is
 -- 0 or less
 abbrev pub kOf : Recording → Vectors → ℕ → ℕ → ℕ
 kOf E X e s = suc (count (λ w. ordered (E .events) X w e) (waitsOn (E .events) s)) - startOf (E .levels) s
 
--- k of an event; 0, which raises nothing, where it is no wait
+-- k of a flag wait: the post count of its flag; 0, which raises nothing, where e is no wait of either kind
+abbrev pub postWhere : Recording → ℕ → Bool → ℕ
+postWhere E e true = postOf (E .levels) (objectOf E e)
+postWhere E e false = 0
+
 abbrev pub kWhere : Recording → Vectors → ℕ → Bool → ℕ
 kWhere E X e true = kOf E X e (objectOf E e)
-kWhere E X e false = 0
+kWhere E X e false = postWhere E e (eqb (kindOf E e) flagWait)
 
+-- k of an event
 unfoldable pub needed : Recording → Vectors → ℕ → ℕ
 needed E X e = kWhere E X e (eqb (kindOf E e) wait)
 
--- the candidates: the signals on its semaphore that e is not ordered before
-unfoldable pub candidates : Recording → Vectors → ℕ → List ℕ
-candidates E X e = filter (λ s. not (ordered (E .events) X e s)) (signalsOn (E .events) (objectOf E e))
+-- the kind of the events that serve one of kind k: posts serve a flag wait, signals a wait
+abbrev pub serving : ℕ → ℕ
+serving k = cond (eqb k flagWait) post signal
 
--- the k-th least among the candidates' numbers for task t; 0 where there are fewer than k
+-- the candidates: the signals on its semaphore, or the posts on its flag, that e is not ordered before
+unfoldable pub candidates : Recording → Vectors → ℕ → List ℕ
+candidates E X e = filter (λ s. not (ordered (E .events) X e s)) (eventsOn (E .events) (serving (kindOf E e)) (objectOf E e))
+
+-- the k-th least among these candidates' numbers for task t; 0 where there are fewer than k
+unfoldable pub kthAmong : Vectors → ℕ → List ℕ → ℕ → ℕ
+kthAmong X k from t = kthLeast k (map (λ s. number X s t) from)
+
+-- what step 2 raises the number of e for task t to
 unfoldable pub served : Recording → Vectors → ℕ → ℕ → ℕ
-served E X e t = kthLeast (needed E X e) (map (λ s. number X s t) (candidates E X e))
+served E X e t = kthAmong X (needed E X e) (candidates E X e) t
 
 -- the vector of e after both steps
 unfoldable pub raised : Recording → Vectors → ℕ → List ℕ

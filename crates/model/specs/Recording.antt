@@ -1,8 +1,8 @@
--- A recording, the four rules, and the first faulty record (document 01, What an acceptable recording obeys; 02, No. 1).
+-- A recording, the rules, and the first faulty record (document 01, What an acceptable recording obeys; 02, No. 1 and 6).
 -- Assumes nothing.
-use Prim.Native.Nat.{ℕ, zero, suc, _+_}
+use Prim.Native.Nat.{ℕ, zero, suc, _+_, _/_, _%_}
 use mathlib.Core.Path.{_≡_}
-use mathlib.Core.Bool.{Bool, true, false, not, _&&_}
+use mathlib.Core.Bool.{Bool, true, false, cond, not, _&&_}
 use mathlib.Core.List.{List, [], _∷_}
 use lib.Dec.{ltb, leb, eqb}
 use lib.ListN.{length, take, getD}
@@ -14,15 +14,20 @@ use Rattle.model.specs.declared.Check.{Check}
 use Rattle.model.specs.Numbers.{count}
 use Rattle.model.specs.Refusals.{unless, andThen}
 
--- what a file gives for each semaphore: its start count
+-- what a file gives for each semaphore, its start count, and for each flag, its post count
 pub record Levels : Type 0 where
   pub starts : List ℕ
+  pub posts : List ℕ
 
 -- the start count of semaphore s; 0 where none is given, as in edition 1
 abbrev pub startOf : Levels → ℕ → ℕ
 startOf x s = getD (x .starts) s 0
 
--- a recording: how many tasks, semaphores and cells it names, its levels, and its events in file order
+-- the post count of flag g; 0 where none is given
+abbrev pub postOf : Levels → ℕ → ℕ
+postOf x g = getD (x .posts) g 0
+
+-- a recording: how many tasks, semaphores, flags and cells it names, its levels, and its events in file order
 pub record Recording : Type 0 where
   pub counts : Counts
   pub levels : Levels
@@ -37,6 +42,20 @@ tasks E = E .counts .tasks
 
 abbrev pub cells : Recording → ℕ
 cells E = E .counts .cells
+
+-- the edition that has flags
+abbrev pub withFlags : ℕ
+withFlags = 3
+
+abbrev pub hasFlags : Counts → Bool
+hasFlags c = eqb (c .edition) withFlags
+
+-- the semaphores and the flags: with flags, the low and the high byte of one field
+unfoldable pub semaphoresOf : Counts → ℕ
+semaphoresOf c = cond (hasFlags c) (c .semaphores % 256) (c .semaphores)
+
+unfoldable pub flagsOf : Counts → ℕ
+flagsOf c = cond (hasFlags c) (c .semaphores / 256) 0
 
 abbrev pub noEvent : Event
 noEvent = record { task = 0; kind = 0; object = 0 }
@@ -77,6 +96,12 @@ read = 5
 abbrev pub write : ℕ
 write = 6
 
+abbrev pub post : ℕ
+post = 7
+
+abbrev pub flagWait : ℕ
+flagWait = 8
+
 abbrev pub ofTask : ℕ → Event → Bool
 ofTask t v = eqb (v .task) t
 
@@ -96,7 +121,10 @@ isFork t v = isOn fork t v
 abbrev pub isJoin : ℕ → Event → Bool
 isJoin t v = isOn join t v
 
--- ---- the four rules, for the event v after the events `before`, in a recording with the levels x
+abbrev pub isPost : ℕ → Event → Bool
+isPost g v = isOn post g v
+
+-- ---- the rules, for the event v after the events `before`, in a recording with the levels x
 
 abbrev pub implies : Bool → Bool → Bool
 implies true b = b
@@ -124,19 +152,24 @@ waitKept x before v =
     implies (eqb (v .kind) wait)
     (ltb (count (isWait (v .object)) before) (startOf x (v .object) + count (isSignal (v .object)) before))
 
+-- at a flag wait, the earlier posts on that flag are at least its post count; none is used up
+unfoldable pub flagKept : Levels → List Event → Event → Bool
+flagKept x before v = implies (eqb (v .kind) flagWait) (leb (postOf x (v .object)) (count (isPost (v .object)) before))
+
 -- the first three rules
 unfoldable pub lifeKept : List Event → Event → Bool
 lifeKept before v = notJoined before v && forkKept before v && joinKept before v
 
--- all four
+-- all of them
 unfoldable pub obeys : Levels → List Event → Event → Bool
-obeys x before v = lifeKept before v && waitKept x before v
+obeys x before v = lifeKept before v && waitKept x before v && flagKept x before v
 
 -- ---- the first faulty record
 
 -- the table of kinds: what the object of each names
 abbrev pub classes : List Class
-classes = Class.Nothing ∷ Class.Semaphore ∷ Class.Semaphore ∷ Class.Task ∷ Class.Task ∷ Class.Cell ∷ Class.Cell ∷ []
+classes =
+    Class.Nothing ∷ Class.Semaphore ∷ Class.Semaphore ∷ Class.Task ∷ Class.Task ∷ Class.Cell ∷ Class.Cell ∷ Class.Flag ∷ Class.Flag ∷ []
 
 unfoldable pub classOf : ℕ → Class
 classOf k = getD classes k Class.Nothing
@@ -144,13 +177,18 @@ classOf k = getD classes k Class.Nothing
 -- how many names a class has
 abbrev pub namesOf : Counts → Class → ℕ
 namesOf c Class.Nothing = 0
-namesOf c Class.Semaphore = c .semaphores
+namesOf c Class.Semaphore = semaphoresOf c
 namesOf c Class.Task = c .tasks
 namesOf c Class.Cell = c .cells
+namesOf c Class.Flag = flagsOf c
 
--- the kind is one of the table's, 1 to 6
-unfoldable pub knownKind : Event → Bool
-knownKind v = leb signal (v .kind) && leb (v .kind) write
+-- the last kind: 6, with flags 8
+unfoldable pub lastKind : Counts → ℕ
+lastKind c = cond (hasFlags c) flagWait write
+
+-- the kind is one of the edition's, from 1 on
+unfoldable pub knownKind : Counts → Event → Bool
+knownKind c v = leb signal (v .kind) && leb (v .kind) (lastKind c)
 
 -- task and object are below their counts
 unfoldable pub named : Counts → Event → Bool
@@ -160,10 +198,11 @@ named c v = ltb (v .task) (c .tasks) && ltb (v .object) (namesOf c (classOf (v .
 unfoldable pub recordCheck : Counts → Levels → List Event → Event → Check
 recordCheck c x before v =
     let e = length before in
-    unless (knownKind v) (Refusal.Kind e) λ _.
+    unless (knownKind c v) (Refusal.Kind e) λ _.
     unless (named c v) (Refusal.Name e) λ _.
     unless (lifeKept before v) (Refusal.Life e) λ _.
     unless (waitKept x before v) (Refusal.Empty e) λ _.
+    unless (flagKept x before v) (Refusal.Flag e) λ _.
     Check.Passed
 
 -- the first faulty record among the first n

@@ -1,4 +1,4 @@
--- The refusal table (document 01, Refusal table; 02, No. 1, 4 and 5), and checks made in its order.
+-- The refusal table (document 01, Refusal table; 02, No. 1, 4, 5 and 6), and checks made in its order.
 -- Assumes nothing.
 use Prim.Native.Nat.{ℕ}
 use mathlib.Core.Bool.{Bool, true, false}
@@ -22,6 +22,7 @@ numberOf Refusal.Out = 12
 numberOf Refusal.Starts = 13
 numberOf (Refusal.Differ t p) = 14
 numberOf Refusal.Unsure = 15
+numberOf (Refusal.Flag e) = 16
 
 -- the faulty record; 0 where no record is at fault
 abbrev pub recordOf : Refusal → ℕ
@@ -40,6 +41,7 @@ recordOf Refusal.Out = 0
 recordOf Refusal.Starts = 0
 recordOf (Refusal.Differ t p) = 0
 recordOf Refusal.Unsure = 0
+recordOf (Refusal.Flag e) = e
 
 -- the pairs needed, which 10 also returns
 abbrev pub pairsOf : Refusal → ℕ
@@ -58,6 +60,7 @@ pairsOf Refusal.Out = 0
 pairsOf Refusal.Starts = 0
 pairsOf (Refusal.Differ t p) = 0
 pairsOf Refusal.Unsure = 0
+pairsOf (Refusal.Flag e) = 0
 
 -- the task that differs, which 14 also returns
 abbrev pub differingTask : Refusal → ℕ
@@ -76,6 +79,7 @@ differingTask Refusal.Out = 0
 differingTask Refusal.Starts = 0
 differingTask (Refusal.Differ t p) = t
 differingTask Refusal.Unsure = 0
+differingTask (Refusal.Flag e) = 0
 
 -- and its first position that does
 abbrev pub differingPosition : Refusal → ℕ
@@ -94,6 +98,7 @@ differingPosition Refusal.Out = 0
 differingPosition Refusal.Starts = 0
 differingPosition (Refusal.Differ t p) = p
 differingPosition Refusal.Unsure = 0
+differingPosition (Refusal.Flag e) = 0
 
 -- Tests are made in the table's order, and what follows a test is computed only where it passes.
 

@@ -21,7 +21,7 @@ use Rattle.model.specs.Writing.{fileIn, fileLength, writtenBy}
 unfoldable pub bringForward : List Event → Vectors → ℕ → List ℕ
 bringForward l X x = picked (λ a. atOrBefore l X a x) (length l) ++ picked (λ a. not (atOrBefore l X a x)) (length l)
 
--- the recording that is written: start 0, the file's edition, counts and start counts, and its records with x brought forward by
+-- the recording that is written: start 0, the file's edition, counts, start counts and post counts, and its records with x brought forward by
 -- the recorded vectors
 unfoldable pub reversedFile : List ℕ → ℕ → List ℕ
 reversedFile f x =

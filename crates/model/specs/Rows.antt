@@ -2,6 +2,7 @@
 -- Proved in proofs/Starred.antt, proofs/Rows.antt and proofs/Instance.antt. Assumes nothing.
 pub mod Starred
 pub mod Started
+pub mod Flagged
 pub mod Ordered
 pub mod Instance
 pub mod Faults

@@ -5,7 +5,7 @@ use Prim.Native.Nat.{ℕ, zero, suc, _*_, max}
 use mathlib.Core.Bool.{Bool, true, _&&_}
 use mathlib.Core.List.{List, [], _∷_, _++_, map}
 use lib.Dec.{leb, eqb}
-use lib.ListN.{length, drop}
+use lib.ListN.{length, getD, drop}
 use Rattle.model.specs.declared.Event.{Event}
 use Rattle.model.specs.declared.Counts.{Counts}
 use Rattle.model.specs.declared.Found.{Found}
@@ -14,7 +14,7 @@ use Rattle.model.specs.declared.Check.{Check}
 use Rattle.model.specs.declared.Joint.{Joint}
 use Rattle.model.specs.Numbers.{flatMap, lastOf}
 use Rattle.model.specs.Refusals.{unless, andThen, after}
-use Rattle.model.specs.Recording.{Levels, startOf, Recording, tasks, eventIn, ofTask}
+use Rattle.model.specs.Recording.{Recording, tasks, semaphoresOf, flagsOf, eventIn, ofTask}
 use Rattle.model.specs.File.{recordingOf}
 use Rattle.model.specs.Reading.{fileCheck}
 use Rattle.model.specs.Vectors.{position}
@@ -25,14 +25,15 @@ use Rattle.model.specs.Analysing.{workFits, filled}
 
 -- ---- the same work: 14 where two recordings differ
 
--- the same tasks, semaphores and cells; the editions may differ
+-- the same tasks, semaphores, flags and cells; the editions may differ
 unfoldable pub sameCounts : Counts → Counts → Bool
-sameCounts c d = eqb (c .tasks) (d .tasks) && eqb (c .semaphores) (d .semaphores) && eqb (c .cells) (d .cells)
+sameCounts c d =
+    eqb (c .tasks) (d .tasks) && eqb (semaphoresOf c) (semaphoresOf d) && eqb (flagsOf c) (flagsOf d) && eqb (c .cells) (d .cells)
 
--- the first n semaphores have the same start counts
-unfoldable pub sameStarts : Levels → Levels → ℕ → Bool
-sameStarts x y zero = true
-sameStarts x y (suc n) = sameStarts x y n && eqb (startOf x n) (startOf y n)
+-- the first n numbers, of start counts or of post counts, are the same, 0 where none is given
+unfoldable pub sameLevels : List ℕ → List ℕ → ℕ → Bool
+sameLevels x y zero = true
+sameLevels x y (suc n) = sameLevels x y n && eqb (getD x n 0) (getD y n 0)
 
 -- the records of task t, by position
 abbrev pub ownRecords : List Event → ℕ → List Event
@@ -54,11 +55,12 @@ unfoldable pub tasksAlike : List Event → List Event → ℕ → Check
 tasksAlike l m zero = Check.Passed
 tasksAlike l m (suc t) = andThen (tasksAlike l m t) λ _. recordsAlike t 1 (ownRecords l t) (ownRecords m t)
 
--- counts and start counts, with task 0 and position 0, then the records
+-- counts, start counts and post counts, with task 0 and position 0, then the records
 unfoldable pub workAlike : Recording → Recording → Check
 workAlike E F =
     unless (sameCounts (E .counts) (F .counts)) (Refusal.Differ 0 0) λ _.
-    unless (sameStarts (E .levels) (F .levels) (E .counts .semaphores)) (Refusal.Differ 0 0) λ _.
+    unless (sameLevels (E .levels .starts) (F .levels .starts) (semaphoresOf (E .counts))) (Refusal.Differ 0 0) λ _.
+    unless (sameLevels (E .levels .posts) (F .levels .posts) (flagsOf (E .counts))) (Refusal.Differ 0 0) λ _.
     tasksAlike (E .events) (F .events) (tasks E)
 
 -- ---- the one list

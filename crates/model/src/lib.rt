@@ -17,17 +17,26 @@ pub const READ: u8 = 5;
 
 pub const WRITE: u8 = 6;
 
-// The most tasks, semaphores, cells and events that a recording has.
+pub const POST: u8 = 7;
+
+pub const FLAG_WAIT: u8 = 8;
+
+// The most tasks, semaphores, flags, cells and events that a recording has.
 pub const MOST_TASKS: u16 = 16;
 
 pub const MOST_SEMAPHORES: u16 = 64;
+
+pub const MOST_FLAGS: u16 = 64;
 
 pub const MOST_CELLS: u16 = 1024;
 
 pub const MOST_EVENTS: usize = 1024;
 
 // The last edition of the file; the first is 1.
-pub const LAST_EDITION: u16 = 2;
+pub const LAST_EDITION: u16 = 3;
+
+// The edition that has flags.
+pub const WITH_FLAGS: u16 = 3;
 
 // The most bytes of a file that the program reads.
 pub const MOST_BYTES: usize = 16384;
@@ -39,7 +48,8 @@ pub struct Event {
     pub object: u16,
 }
 
-// How many tasks, semaphores and cells a recording names, and the edition of its file.
+// How many tasks, semaphores and cells a recording names, and the edition of its file. `semaphores` is the field of the file: in
+// edition 3 its low byte counts semaphores and its high byte flags.
 pub struct Counts {
     pub tasks: u16,
     pub semaphores: u16,
@@ -60,6 +70,7 @@ pub enum Class {
     Semaphore,
     Task,
     Cell,
+    Flag,
 }
 
 // An event that was looked for.
@@ -86,6 +97,7 @@ pub enum Refusal {
     Starts,
     Differ { task: u16, position: u16 },
     Unsure,
+    Flag(usize),
 }
 
 // The outcome of a check.
@@ -169,6 +181,7 @@ impl Refusal {
             Refusal::Starts => 13,
             Refusal::Differ { .. } => 14,
             Refusal::Unsure => 15,
+            Refusal::Flag(_) => 16,
         }
     }
 
@@ -181,6 +194,7 @@ impl Refusal {
             Refusal::Name(e) => e,
             Refusal::Life(e) => e,
             Refusal::Empty(e) => e,
+            Refusal::Flag(e) => e,
             Refusal::Short => 0,
             Refusal::Edition => 0,
             Refusal::Extent => 0,
@@ -215,6 +229,7 @@ impl Refusal {
             Refusal::Starts => 0,
             Refusal::Differ { .. } => 0,
             Refusal::Unsure => 0,
+            Refusal::Flag(_) => 0,
         }
     }
 
@@ -238,6 +253,7 @@ impl Refusal {
             Refusal::Out => 0,
             Refusal::Starts => 0,
             Refusal::Unsure => 0,
+            Refusal::Flag(_) => 0,
         }
     }
 
@@ -261,6 +277,7 @@ impl Refusal {
             Refusal::Out => 0,
             Refusal::Starts => 0,
             Refusal::Unsure => 0,
+            Refusal::Flag(_) => 0,
         }
     }
 }

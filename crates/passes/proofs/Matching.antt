@@ -1,24 +1,28 @@
--- Laws of the matches in one look: how they start and go on by one event, and that the signal at hand is the matched one. Assumes nothing.
-use mathlib.Core.Path.{_≡_, ap, _∙_}
+-- Laws of the matches in one look: how they start and go on by one event, that the signal at hand is the matched one, and that the
+-- posts at hand, one after another, are the first. Assumes nothing.
+use mathlib.Core.Path.{_≡_, sym, ap, _∙_}
 use mathlib.Core.Bool.{Bool, true, false, _&&_}
-use mathlib.Core.List.{List}
+use mathlib.Core.List.{List, [], _∷_, _++_}
 use Prim.Native.Nat.{ℕ, zero, suc, _+_, _-_, _≤_, _<_, min}
 use native.Mathlib.Decide.{decLe}
+use native.Mathlib.Numerals.{add-one}
 use native.Mathlib.Omega.{arith}
 use lib.Dec.{leb, eqb}
-use lib.ListN.{length, getD, set, replicate, length-set, length-replicate, getD-replicate}
-use lib.Seq.{getD-set-same, getD-set-other}
+use lib.ListN.{length, getD, take, set, replicate, length-set, length-replicate, getD-replicate}
+use lib.Seq.{getD-set-same, getD-set-other, take-suc, take-all}
 use Rattle.model.specs.declared.Found.{Found}
-use Rattle.model.specs.Numbers.{bit, sum, tally, nth}
-use Rattle.model.specs.File.{eventsOf, levelsBy}
-use Rattle.model.specs.Passes.{signalsOn}
-use Rattle.model.proofs.Tests.{cases, tests, fails, first, second, eqb-true}
-use Rattle.events.specs.Chains.{among, head, Chained}
+use Rattle.model.specs.Numbers.{bit, sum, tally, picked, nth}
+use Rattle.model.specs.File.{eventsOf}
+use Rattle.model.specs.Passes.{eventsOn}
+use Rattle.model.proofs.Tests.{cases, tests, fails, both, first, second, eqb-true, le-leb}
+use Rattle.model.proofs.Sum.{rank-rises}
+use Rattle.model.proofs.Picked.{picked-length, rank-at}
+use Rattle.events.specs.Chains.{among, Nearest, head, Chained}
 use Rattle.events.proofs.Laws.{tally-next}
 use Rattle.events.proofs.Chains.{chained-by}
-use Rattle.passes.specs.Matching.{signalAt, waitAt, AtHand, Matching}
+use Rattle.passes.specs.Matching.{onAt, signalAt, waitAt, AtHand, Matching}
 use Rattle.passes.proofs.Searches.{tally-start, nth-here, nth-none}
-use Rattle.model.specs.Recording.{startOf, eventIn, wait, signal}
+use Rattle.model.specs.Recording.{Levels, startOf, eventIn, wait}
 
 -- a tally does not rise over numbers that fail
 tally-skip : (p : ℕ → Bool) (m b : ℕ) → m ≤ b → ((i : ℕ) → m ≤ i → i < b → p i ≡ false) → tally p b ≡ tally p m
@@ -29,33 +33,94 @@ tally-skip p m (suc b) h e = elim (decLe m b) [
   | no l ↦ (let z : m ≡ suc b = omega arith in rw z)
 ]
 
--- the kinds 1 to 1 are the signals
-one-kind : (k : ℕ) → (leb signal k && leb k signal) ≡ eqb k signal
-one-kind k =
-    cases (eqb k signal) (λ t. let q : k ≡ signal = omega tests in rw (q))
-    (λ t. rw t (fails (leb signal k && leb k signal) (λ u. let a = first (leb signal k) (leb k signal) u in let b = second (leb signal k) (leb k signal) u in omega tests)))
+-- ---- what is at hand
+
+module _ (p : ℕ → Bool) (n : ℕ) where
+  -- the first one
+  pub hand-first : (b : ℕ) → Nearest p n 0 b → AtHand p n 0 b
+  hand-first b r =
+      let t = tally-skip p 0 b (omega arith) (r .passed) in
+      let z = tally-start p in
+      record { high = r .high; hit = r .hit; rank = λ _. omega arith; most = omega arith }
+
+  -- it is taken, and the next one is at hand
+  pub hand-next : (w a b : ℕ) → a < n → AtHand p n w a → Nearest p n (a + 1) b → AtHand p n (w + 1) b
+  hand-next w a b k h r =
+      let t = tally-skip p (a + 1) b (r .low) (r .passed) in
+      let u = tally-next p a in
+      let z = ap bit (h .hit k) in
+      let q = h .rank k in
+      record { high = r .high; hit = r .hit; rank = λ _. omega arith; most = omega arith }
+
+  -- none is at hand, and none stays at hand
+  pub none-next : (w b : ℕ) → n ≤ b → AtHand p n w b → AtHand p n (w + 1) b
+  none-next w b l h = record { high = h .high; hit = h .hit; rank = λ k. absurd (omega arith); most = omega (arith, h .most) }
+
+-- of the events of a kind on x, b is the one at place w
+module _ (s : List ℕ) (kind x w b : ℕ) (h : AtHand (onAt s kind x) (length (eventsOf s)) w b) where
+  pub hand-at : b < length (eventsOf s) → Found.At b ≡ nth (eventsOn (eventsOf s) kind x) w
+  unfolding eventsOn
+  hand-at l = nth-here (onAt s kind x) (length (eventsOf s)) w b l (h .hit l) (h .rank l)
+
+  few : length (eventsOf s) ≤ b → tally (onAt s kind x) (length (eventsOf s)) ≤ w
+  few l = let q : b ≡ length (eventsOf s) = omega (arith, h .high) in rw q at (h .most)
+
+  pub hand-none : length (eventsOf s) ≤ b → Found.Nothing ≡ nth (eventsOn (eventsOf s) kind x) w
+  unfolding eventsOn
+  hand-none l = nth-none (onAt s kind x) (length (eventsOf s)) w (few l)
+
+  -- with the w before it, it makes the first w + 1; where there is none, those before are all
+  pub first-more : b < length (eventsOf s) → take w (eventsOn (eventsOf s) kind x) ++ b ∷ [] ≡ take (w + 1) (eventsOn (eventsOf s) kind x)
+  unfolding eventsOn
+  first-more l =
+      let n = length (eventsOf s) in
+      let p = onAt s kind x in
+      let at : getD (picked p n) w 0 ≡ b = ap (λ (k : ℕ). getD (picked p n) k 0) (sym (h .rank l)) ∙ rank-at p n b l (h .hit l) in
+      rw (add-one w, take-suc (picked p n) w 0 (omega (arith, h .rank l, rank-rises p b n l (h .hit l), picked-length p n)), at)
+
+  pub first-all : length (eventsOf s) ≤ b → (m : ℕ) → w ≤ m → take w (eventsOn (eventsOf s) kind x) ≡ take m (eventsOn (eventsOf s) kind x)
+  unfolding eventsOn
+  first-all l m k =
+      let on = picked (onAt s kind x) (length (eventsOf s)) in
+      let z = picked-length (onAt s kind x) (length (eventsOf s)) in
+      take-all w on (omega (arith, few l)) ∙ sym (take-all m on (omega (arith, few l)))
+
+-- ---- chains of one kind
+
+-- the kinds k to k are k
+one-kind : (k j : ℕ) → (leb k j && leb j k) ≡ eqb j k
+one-kind k j =
+    cases (eqb j k) (λ t. both (le-leb k j (omega tests)) (le-leb j k (omega tests)) ∙ sym t)
+    (λ t. fails (leb k j && leb j k) (λ u. let a = first (leb k j) (leb j k) u in let b = second (leb k j) (leb j k) u in omega tests) ∙ sym t)
+
+-- gathered by one kind
+pub of-kind : (s : List ℕ) (kind n k : ℕ) (chain : List ℕ) → n ≡ length (eventsOf s) → Chained (among s kind kind) n k 0 chain
+    → Chained (onAt s kind) (length (eventsOf s)) k 0 chain
+of-kind s kind n k chain q d =
+    rw q at (chained-by (among s kind kind) (onAt s kind) n k 0 chain (λ x i. ap (λ (b : Bool). b && eqb (eventIn (eventsOf s) i .object) x) (one-kind kind (eventIn (eventsOf s) i .kind))) d)
+
+-- ---- the running state
 
 -- before the first event
-pub start : (s b : List ℕ) (n : ℕ) (chain : List ℕ) → n ≡ length (eventsOf s) → Chained (among s signal signal) n 64 0 chain
-    → Matching s b 0 (replicate 64 0) chain
-start s b n chain q d =
-    let c : Chained (signalAt s) (length (eventsOf s)) 64 0 chain = rw q at (chained-by (among s signal signal) (signalAt s) n 64 0 chain (λ x i. ap (λ (b : Bool). b && eqb (eventIn (eventsOf s) i .object) x) (one-kind (eventIn (eventsOf s) i .kind))) d) in
+pub start : (s : List ℕ) (levels : Levels) (chain : List ℕ) → Chained (signalAt s) (length (eventsOf s)) 64 0 chain → Matching s levels 0 (replicate 64 0) chain
+start s levels chain c =
     record {
       places = length-replicate {A = ℕ} 64 0;
       wide = c .wide;
       counted = λ x l. rw (getD-replicate {A = ℕ} 64 x 0 0 l) (omega (arith, tally-start (waitAt s x)));
       heads = λ x l.
-          let n = c .heads x l in
-          let t = tally-skip (signalAt s x) 0 (getD chain (head x) 0) (omega arith) (n .passed) in
-          let z = tally-start (signalAt s x) in
-          let w = tally-start (waitAt s x) in
-          record { high = n .high; hit = n .hit; rank = λ _. omega arith; most = omega arith };
+          let z : tally (waitAt s x) 0 - startOf levels x ≡ 0 = omega (arith, tally-start (waitAt s x)) in
+          rw z (hand-first (signalAt s x) (length (eventsOf s)) (getD chain (head x) 0) (c .heads x l));
       links = λ a x l m t. c .links a x (omega arith) l m t;
     }
 
-module _ (s b : List ℕ) (e : ℕ) (unmatched chain : List ℕ) (m : Matching s b e unmatched chain) where
+module _ (s : List ℕ) (levels : Levels) (e : ℕ) (unmatched chain : List ℕ) (m : Matching s levels e unmatched chain) where
+  -- what is at hand on x with w signals before it
+  abbrev Hand : ℕ → ℕ → ℕ → Type 0
+  Hand x w b = AtHand (signalAt s x) (length (eventsOf s)) w b
+
   -- an event that is no wait
-  pub next-other : ((x : ℕ) → waitAt s x e ≡ false) → Matching s b (e + 1) unmatched chain
+  pub next-other : ((x : ℕ) → waitAt s x e ≡ false) → Matching s levels (e + 1) unmatched chain
   next-other h =
       let q : (x : ℕ) → tally (waitAt s x) (e + 1) ≡ tally (waitAt s x) e = λ x. omega (arith, tally-next (waitAt s x) e, ap bit (h x)) in
       record {
@@ -88,57 +153,37 @@ module _ (s b : List ℕ) (e : ℕ) (unmatched chain : List ℕ) (m : Matching s
         (λ u. let d : x ≡ y → ⊥ = λ q. omega tests in rw (there x d) (k d))
 
     -- one of the first, as many as the start count
-    pub next-early : getD unmatched y 0 < startOf (levelsBy b) y → Matching s b (e + 1) (set unmatched y (getD unmatched y 0 + 1)) chain
+    pub next-early : getD unmatched y 0 < startOf levels y → Matching s levels (e + 1) (set unmatched y (getD unmatched y 0 + 1)) chain
     next-early h =
         let n = getD unmatched y 0 + 1 in
-        let z : tally (waitAt s y) e + 1 - startOf (levelsBy b) y ≡ tally (waitAt s y) e - startOf (levelsBy b) y = omega (arith, m .counted y l) in
+        let z : tally (waitAt s y) e + 1 - startOf levels y ≡ tally (waitAt s y) e - startOf levels y = omega (arith, m .counted y l) in
         record {
           places = length-set unmatched y n ∙ m .places;
           wide = m .wide;
           counted = λ x k.
-              at-each (λ x w. getD (set unmatched y n) x 0 ≡ min (startOf (levelsBy b) x) w)
+              at-each (λ x w. getD (set unmatched y n) x 0 ≡ min (startOf levels x) w)
               (getD-set-same unmatched y n 0 (omega (arith, m .places)) ∙ omega (arith, m .counted y l)) x
               (λ d. getD-set-other unmatched y x n 0 (λ q. d (omega arith)) ∙ m .counted x k);
-          heads = λ x k. at-each (λ x w. AtHand s x (w - startOf (levelsBy b) x) (getD chain (head x) 0)) (rw z (m .heads y l)) x (λ d. m .heads x k);
+          heads = λ x k. at-each (λ x w. Hand x (w - startOf levels x) (getD chain (head x) 0)) (rw z (m .heads y l)) x (λ d. m .heads x k);
           links = m .links;
         }
 
     -- a later one, and what is at hand there then
-    pub next-later : startOf (levelsBy b) y ≤ getD unmatched y 0 → (a : ℕ) → AtHand s y (tally (waitAt s y) e - startOf (levelsBy b) y + 1) a → length (eventsOf s) ≤ 1024
-        → Matching s b (e + 1) unmatched (set chain (head y) a)
+    pub next-later : startOf levels y ≤ getD unmatched y 0 → (a : ℕ) → Hand y (tally (waitAt s y) e - startOf levels y + 1) a → length (eventsOf s) ≤ 1024
+        → Matching s levels (e + 1) unmatched (set chain (head y) a)
     next-later h a n g =
-        let z : tally (waitAt s y) e + 1 - startOf (levelsBy b) y ≡ tally (waitAt s y) e - startOf (levelsBy b) y + 1 = omega (arith, m .counted y l) in
+        let z : tally (waitAt s y) e + 1 - startOf levels y ≡ tally (waitAt s y) e - startOf levels y + 1 = omega (arith, m .counted y l) in
         record {
           places = m .places;
           wide = length-set chain (head y) a ∙ m .wide;
-          counted = λ x k. at-each (λ x w. getD unmatched x 0 ≡ min (startOf (levelsBy b) x) w) (omega (arith, m .counted y l)) x (λ d. m .counted x k);
+          counted = λ x k. at-each (λ x w. getD unmatched x 0 ≡ min (startOf levels x) w) (omega (arith, m .counted y l)) x (λ d. m .counted x k);
           heads = λ x k.
-              at-each (λ x w. AtHand s x (w - startOf (levelsBy b) x) (getD (set chain (head y) a) (head x) 0))
+              at-each (λ x w. Hand x (w - startOf levels x) (getD (set chain (head y) a) (head x) 0))
               (rw (z, getD-set-same chain (head y) a 0 (omega (arith, m .wide))) n) x
               (λ d. rw (getD-set-other chain (head y) (head x) a 0 (λ q. d (omega arith))) (m .heads x k));
           links = λ i x k j u. rw (getD-set-other chain (head y) i a 0 (λ q. omega arith)) (m .links i x k j u);
         }
 
   -- the signal at hand is taken, and the next one is at hand
-  pub taken-next : (y w a : ℕ) → y < 64 → a < length (eventsOf s) → AtHand s y w a → AtHand s y (w + 1) (getD chain a 0)
-  taken-next y w a l k h =
-      let n = m .links a y k l (h .hit k) in
-      let t = tally-skip (signalAt s y) (a + 1) (getD chain a 0) (n .low) (n .passed) in
-      let u = tally-next (signalAt s y) a in
-      let z = ap bit (h .hit k) in
-      let r = h .rank k in
-      record { high = n .high; hit = n .hit; rank = λ _. omega arith; most = omega arith }
-
--- none is at hand, and none stays at hand
-pub none-next : (s : List ℕ) (y w b : ℕ) → length (eventsOf s) ≤ b → AtHand s y w b → AtHand s y (w + 1) b
-none-next s y w b l h = record { high = h .high; hit = h .hit; rank = λ k. absurd (omega arith); most = omega (arith, h .most) }
-
--- what is at hand is matched
-module _ (s : List ℕ) (y w b : ℕ) (h : AtHand s y w b) where
-  pub hand-at : b < length (eventsOf s) → Found.At b ≡ nth (signalsOn (eventsOf s) y) w
-  unfolding signalsOn
-  hand-at l = nth-here (signalAt s y) (length (eventsOf s)) w b l (h .hit l) (h .rank l)
-
-  pub hand-none : length (eventsOf s) ≤ b → Found.Nothing ≡ nth (signalsOn (eventsOf s) y) w
-  unfolding signalsOn
-  hand-none l = let q : b ≡ length (eventsOf s) = omega (arith, h .high) in nth-none (signalAt s y) (length (eventsOf s)) w (rw q at (h .most))
+  pub taken-next : (y w a : ℕ) → y < 64 → a < length (eventsOf s) → Hand y w a → Hand y (w + 1) (getD chain a 0)
+  taken-next y w a l k h = hand-next (signalAt s y) (length (eventsOf s)) w a (getD chain a 0) k h (m .links a y k l (h .hit k))

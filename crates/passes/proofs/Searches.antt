@@ -1,15 +1,17 @@
--- What the searches over the records find: below which number it lies, and the signal that matches a wait.
+-- What the searches over the records find: below which number it lies, the signal that matches a wait, and the posts that open a flag.
 -- Assumes nothing.
 use Prim.Native.Nat.{ℕ, _-_, _≤_, _<_}
 use mathlib.Core.Path.{_≡_, refl, sym, ap, ap₂, subst, _∙_}
 use mathlib.Core.Bool.{Bool, true}
+use mathlib.Core.List.{[]}
 use native.Mathlib.Omega.{arith}
+use lib.ListN.{take}
 use Rattle.model.specs.declared.Event.{Event}
 use Rattle.model.specs.declared.Found.{Found}
 use Rattle.model.specs.Numbers.{sum, tally, picked, lastOf, nth}
-use Rattle.model.specs.Recording.{startOf, Recording, kindOf, objectOf, wait}
-use Rattle.model.specs.Passes.{signalsOn}
-use Rattle.model.specs.Recorded.{waitsBefore, matched}
+use Rattle.model.specs.Recording.{startOf, postOf, Recording, kindOf, objectOf, wait, flagWait}
+use Rattle.model.specs.Passes.{signalsOn, postsOn}
+use Rattle.model.specs.Recorded.{waitsBefore, matched, opened}
 use Rattle.model.proofs.Tests.{eq-eqb, ne-eqb, lt-ltb, le-ltb}
 use Rattle.model.proofs.Sum.{rank-rises, rank-same}
 use Rattle.model.proofs.Picked.{nth-of, nth-found}
@@ -58,3 +60,12 @@ module _ (E : Recording) (e : ℕ) where
   pub matched-other : (kindOf E e ≡ wait → ⊥) → Found.Nothing ≡ matched (E .levels) (E .events) e
   unfolding matched
   matched-other d = rw (ne-eqb (kindOf E e) wait d)
+
+  -- a flag wait, and any other event
+  pub opened-flag : kindOf E e ≡ flagWait → take (postOf (E .levels) (objectOf E e)) (postsOn (E .events) (objectOf E e)) ≡ opened (E .levels) (E .events) e
+  unfolding opened
+  opened-flag q = rw (eq-eqb (kindOf E e) flagWait q)
+
+  pub opened-other : (kindOf E e ≡ flagWait → ⊥) → opened (E .levels) (E .events) e ≡ []
+  unfolding opened
+  opened-other d = rw (ne-eqb (kindOf E e) flagWait d)

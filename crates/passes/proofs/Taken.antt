@@ -2,7 +2,7 @@
 -- Assumes nothing.
 use Prim.Native.Nat.{ℕ, _+_, _*_, _<_, zero-le, max}
 use mathlib.Core.Path.{_≡_, refl, sym, ap, ap₂, _∙_}
-use mathlib.Core.List.{List, [], _∷_, _++_}
+use mathlib.Core.List.{List, [], _∷_, _++_, append-assoc}
 use native.Mathlib.Omega.{arith}
 use lib.Dec.{eqb}
 use lib.ListN.{length, getD, set}
@@ -12,7 +12,7 @@ use Rattle.model.specs.Numbers.{found, largest}
 use Rattle.model.specs.Recording.{Recording, size, tasks, kindOf, objectOf, join}
 use Rattle.model.specs.Vectors.{Vectors, number}
 use Rattle.model.specs.Passes.{forkOf, lastEvent, beforeOrFork, joinSources, sources, gathered, stepOne}
-use Rattle.model.specs.Recorded.{matched, causes}
+use Rattle.model.specs.Recorded.{matched, opened, causes}
 use Rattle.model.proofs.Tests.{cases, eqb-true, eqb-false, eq-eqb, ne-eqb}
 use Rattle.model.proofs.Climb.{Shaped}
 use Rattle.vectors.specs.Rows.{chunks, raisedTo}
@@ -145,12 +145,18 @@ join-taken E l k j e f g p q h d t u r z =
     ap (chunks (size E) (tasks E)) r ∙ taken-found (E .counts) (size E) l e f p h in
     rw (eq-eqb (kindOf E e) join d, ← t, ← u) (ap (chunks (size E) (tasks E)) z ∙ found-then (E .counts) (size E) l k e (found f) g p q h x)
 
--- the recorded vector: step 1, then the matched signal
-pub record-event : (E : Recording) (X Y Z : Vectors) (e : ℕ) → Shaped (size E) (tasks E) X → e < size E
-    → Y ≡ stepOne E X e → Z ≡ taken (E .counts) Y (found (matched (E .levels) (E .events) e)) e → Z ≡ recordedEvent E X e
+-- the recorded vector: step 1, then the matched signal, then the first posts
+pub record-event : (E : Recording) (X Y Z W : Vectors) (e : ℕ) → Shaped (size E) (tasks E) X → e < size E → Y ≡ stepOne E X e
+    → Z ≡ taken (E .counts) Y (found (matched (E .levels) (E .events) e)) e → W ≡ taken (E .counts) Z (opened (E .levels) (E .events) e) e
+    → W ≡ recordedEvent E X e
 unfolding stepOne recordedEvent
-record-event E X Y Z e s h q r =
-    r
-    ∙ ap (λ (W : Vectors). taken (E .counts) W (found (matched (E .levels) (E .events) e)) e) (q ∙ gathered-taken E X (sources (E .events) e) e)
-    ∙ taken-then (E .counts) X e s h (sources (E .events) e) (found (matched (E .levels) (E .events) e))
+record-event E X Y Z W e s h q r u =
+    let c = E .counts in
+    let from = sources (E .events) e in
+    let signal = found (matched (E .levels) (E .events) e) in
+    let posts = opened (E .levels) (E .events) e in
+    u
+    ∙ ap (λ (U : Vectors). taken c U posts e) (r ∙ ap (λ (U : Vectors). taken c U signal e) (q ∙ gathered-taken E X from e) ∙ taken-then c X e s h from signal)
+    ∙ taken-then c X e s h (from ++ signal) posts
+    ∙ ap (λ (all : List ℕ). taken c X all e) (append-assoc from signal posts)
     ∙ sym (gathered-taken E X (causes (E .levels) (E .events) e) e)

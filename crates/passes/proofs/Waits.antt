@@ -5,14 +5,15 @@ use mathlib.Core.Path.{_≡_, refl, sym, ap, ap₂, _∙_}
 use mathlib.Core.Bool.{Bool, true, false, cond, not, _&&_}
 use mathlib.Core.List.{List, [], _∷_, _++_, map, append-nil, append-assoc}
 use native.Mathlib.Numerals.{add-one}
+use native.Mathlib.Omega.{arith}
 use lib.ListN.{length, getD, set, drop}
 use lib.Seq.{set-at, set-set, drop-cons}
 use Rattle.model.specs.Numbers.{tally, filter, each, picked, kthLeast}
 use Rattle.model.specs.declared.Counts.{Counts}
 use Rattle.model.specs.declared.Event.{Event}
-use Rattle.model.specs.Recording.{startOf, Recording, size, tasks, event, kindOf, objectOf, isSignal, isWait, wait}
+use Rattle.model.specs.Recording.{startOf, postOf, Recording, size, tasks, event, kindOf, objectOf, isOn, isWait, wait, flagWait}
 use Rattle.model.specs.Vectors.{Vectors, number, ordered}
-use Rattle.model.specs.Passes.{signalsOn, waitsOn, kOf, needed, candidates, served, stepOne, raised}
+use Rattle.model.specs.Passes.{eventsOn, kOf, needed, serving, candidates, kthAmong, served, stepOne, raised}
 use Rattle.model.proofs.Tests.{cases, eq-eqb, ne-eqb}
 use Rattle.model.proofs.Least.{kth-zero}
 use Rattle.model.proofs.Picked.{count-picked, picked-few, picked-below}
@@ -58,48 +59,61 @@ filter-picked p q (suc n) =
     last true = refl
     last false = refl
 
-module _ (l : List Event) (X : Vectors) (e s : ℕ) where
-  pub candidates-all : (a : ℕ) → a ≡ length l → picked (candidate l X e s) a ≡ candidatesOn l X e s
+module _ (l : List Event) (X : Vectors) (e kind x : ℕ) where
+  pub candidates-all : (a : ℕ) → a ≡ length l → picked (candidate l X e kind x) a ≡ candidatesOn l X e kind x
   unfolding candidatesOn
-  candidates-all a q = ap (picked (candidate l X e s)) q
+  candidates-all a q = ap (picked (candidate l X e kind x)) q
 
-  pub candidates-few : length (candidatesOn l X e s) ≤ length l
+  pub candidates-few : length (candidatesOn l X e kind x) ≤ length l
   unfolding candidatesOn
-  candidates-few = picked-few (candidate l X e s) (length l)
+  candidates-few = picked-few (candidate l X e kind x) (length l)
 
-  pub candidates-below : (i : ℕ) → i < length (candidatesOn l X e s) → getD (candidatesOn l X e s) i 0 < length l
+  pub candidates-below : (i : ℕ) → i < length (candidatesOn l X e kind x) → getD (candidatesOn l X e kind x) i 0 < length l
   unfolding candidatesOn
-  candidates-below i h = picked-below (candidate l X e s) (length l) i h
+  candidates-below i h = picked-below (candidate l X e kind x) (length l) i h
 
 module _ (E : Recording) (X : Vectors) (e : ℕ) where
-  pub candidates-on : candidatesOn (E .events) X e (objectOf E e) ≡ candidates E X e
-  unfolding candidatesOn candidates signalsOn
-  candidates-on = sym (filter-picked (λ a. isSignal (objectOf E e) (event E a)) (λ s. not (ordered (E .events) X e s)) (size E))
+  candidates-on : candidatesOn (E .events) X e (serving (kindOf E e)) (objectOf E e) ≡ candidates E X e
+  unfolding candidatesOn candidates eventsOn
+  candidates-on = sym (filter-picked (λ a. isOn (serving (kindOf E e)) (objectOf E e) (event E a)) (λ s. not (ordered (E .events) X e s)) (size E))
 
   pub k-tally : (s : ℕ) → kOf E X e s ≡ suc (tally (waitBefore (E .events) X e s) (size E)) - startOf (E .levels) s
-  unfolding waitsOn
+  unfolding eventsOn
   k-tally s = ap (λ (n : ℕ). suc n - startOf (E .levels) s) (count-picked (λ a. isWait s (event E a)) (λ w. ordered (E .events) X w e) (size E))
 
-  -- a wait, and any other event
-  pub wait-raised : kindOf E e ≡ wait → waited (E .counts) (E .events) X e (objectOf E e) (kOf E X e (objectOf E e)) ≡ stepTwo E X e
-  unfolding waited stepTwo raisedTo served needed
-  wait-raised q = rw (candidates-on, eq-eqb (kindOf E e) wait q)
+  module _ (v : Event) (w : v ≡ event E e) where
+    -- a wait of either kind, by the kind that serves it and its k
+    pub wait-raised : (Y : Vectors) (kind k : ℕ) → Y ≡ waited (E .counts) (E .events) X e kind (v .object) k → serving (v .kind) ≡ kind → k ≡ needed E X e
+        → Y ≡ stepTwo E X e
+    unfolding waited stepTwo raisedTo served
+    wait-raised Y kind k r p q = r ∙ rw (← p, q, w, candidates-on)
 
-  pub other-kept : Shaped (size E) (tasks E) X → e < size E → (kindOf E e ≡ wait → ⊥) → X ≡ stepTwo E X e
-  unfolding stepTwo served needed
-  other-kept s h d =
-      sym (raisedTo-none e _ s h λ t k.
-      let z = kth-zero (map (λ s. number X s t) (candidates E X e)) in
-      let q = ne-eqb (kindOf E e) wait d in
-      rw (q, z) zero-le)
+    kind : v .kind ≡ kindOf E e
+    kind = ap (λ (u : Event). u .kind) w
+
+    -- what each kind needs
+    pub needed-wait : v .kind ≡ wait → kOf E X e (v .object) ≡ needed E X e
+    unfolding needed
+    needed-wait q = rw (w, eq-eqb (kindOf E e) wait (sym kind ∙ q))
+
+    pub needed-flag : v .kind ≡ flagWait → postOf (E .levels) (v .object) ≡ needed E X e
+    unfolding needed
+    needed-flag q = rw (w, ne-eqb (kindOf E e) wait (λ r. omega (arith, kind)), eq-eqb (kindOf E e) flagWait (sym kind ∙ q))
+
+    -- any other event needs none
+    pub other-kept : Shaped (size E) (tasks E) X → e < size E → (v .kind ≡ wait → ⊥) → (v .kind ≡ flagWait → ⊥) → X ≡ stepTwo E X e
+    unfolding stepTwo served needed kthAmong
+    other-kept s h d f =
+        sym (raisedTo-none e _ s h λ t k.
+        rw (ne-eqb (kindOf E e) wait (λ q. d (kind ∙ q)), ne-eqb (kindOf E e) flagWait (λ q. f (kind ∙ q)), kth-zero (map (λ s. number X s t) (candidates E X e))) zero-le)
 
 -- the candidates' numbers in the flat list
-pub chunks-waited : (c : Counts) (l : List Event) (v : List ℕ) (e s k : ℕ) (cs : List ℕ) → length v ≡ length l * c .tasks → e < length l
-    → cs ≡ candidatesOn l (chunks (length l) (c .tasks) v) e s
+pub chunks-waited : (c : Counts) (l : List Event) (v : List ℕ) (e kind x k : ℕ) (cs : List ℕ) → length v ≡ length l * c .tasks → e < length l
+    → cs ≡ candidatesOn l (chunks (length l) (c .tasks) v) e kind x
     → chunks (length l) (c .tasks) (raisedAt v (e * c .tasks) (λ t. kthLeast k (column (c .tasks) v t cs)) (c .tasks))
-    ≡ waited c l (chunks (length l) (c .tasks) v) e s k
-unfolding waited
-chunks-waited c l v e s k cs h p r =
+    ≡ waited c l (chunks (length l) (c .tasks) v) e kind x k
+unfolding waited kthAmong
+chunks-waited c l v e kind x k cs h p r =
     let X = chunks (length l) (c .tasks) v in
     chunks-raised (length l) (c .tasks) v e (λ t. kthLeast k (column (c .tasks) v t cs)) h p
     ∙ raisedTo-alike e _ _ (chunks-shaped (length l) (c .tasks) v h) p λ t j.

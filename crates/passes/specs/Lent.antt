@@ -6,13 +6,13 @@ use mathlib.Core.List.{List}
 use lib.ListN.{length, getD}
 use Rattle.model.specs.declared.Counts.{Counts}
 use Rattle.model.specs.declared.Found.{Found}
-use Rattle.model.specs.Recording.{Recording, eventIn, wait}
+use Rattle.model.specs.Recording.{Recording, eventIn, wait, flagWait}
 use Rattle.model.specs.File.{eventsOf, recordingBy}
 use Rattle.model.specs.Vectors.{Vectors}
 use Rattle.model.specs.LastEvent.{NoneAfterJoin}
 use Rattle.vectors.specs.Rows.{chunks, raisedAt}
 use Rattle.events.specs.Kept.{Positions}
-use Rattle.model.specs.Reading.{mostSemaphores, mostEvents}
+use Rattle.model.specs.Reading.{mostSemaphores, mostFlags, mostEvents}
 
 -- lent numbers as one vector for each event
 abbrev pub vectorsIn : List ℕ → Counts → List ℕ → Vectors
@@ -35,12 +35,13 @@ abbrev pub Numbered : List ℕ → ℕ → Type 0
 Numbered s a = a < length (eventsOf s)
 
 -- the record bytes s are whole records, at most 1,024, each of a task below the number of tasks, each wait on a semaphore below 64,
--- and no record of a joined task follows its join
+-- each flag wait on a flag below 64, and no record of a joined task follows its join
 pub record Records (s : List ℕ) (c : Counts) : Type 0 where
   pub whole : length s ≡ 4 * length (eventsOf s)
   pub few : length (eventsOf s) ≤ mostEvents
   pub named : (e : ℕ) → e < length (eventsOf s) → eventIn (eventsOf s) e .task < c .tasks
   pub waits : (e : ℕ) → e < length (eventsOf s) → eventIn (eventsOf s) e .kind ≡ wait → eventIn (eventsOf s) e .object < mostSemaphores
+  pub flag-waits : (e : ℕ) → e < length (eventsOf s) → eventIn (eventsOf s) e .kind ≡ flagWait → eventIn (eventsOf s) e .object < mostFlags
   pub joined : NoneAfterJoin (eventsOf s)
 
 -- and the positions of their events

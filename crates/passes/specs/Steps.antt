@@ -2,14 +2,14 @@
 -- Assumes nothing.
 use Prim.Native.Nat.{ℕ}
 use mathlib.Core.Bool.{Bool, not, _&&_}
-use mathlib.Core.List.{List, map}
+use mathlib.Core.List.{List}
 use lib.ListN.{length, set}
 use Rattle.model.specs.declared.Counts.{Counts}
 use Rattle.model.specs.declared.Event.{Event}
-use Rattle.model.specs.Numbers.{picked, largest, kthLeast}
-use Rattle.model.specs.Recording.{Recording, tasks, eventIn, isSignal, isWait}
+use Rattle.model.specs.Numbers.{picked, largest}
+use Rattle.model.specs.Recording.{Recording, tasks, eventIn, isOn, isWait}
 use Rattle.model.specs.Vectors.{Vectors, position, number, ordered}
-use Rattle.model.specs.Passes.{gathered, served, raised}
+use Rattle.model.specs.Passes.{gathered, kthAmong, served, raised}
 use Rattle.model.specs.Recorded.{causes}
 use Rattle.vectors.specs.Rows.{raisedTo, ownRow}
 
@@ -25,16 +25,16 @@ taken c X from e = raisedTo (c .tasks) X e (λ t. largest (λ s. number X s t) f
 abbrev pub waitBefore : List Event → Vectors → ℕ → ℕ → ℕ → Bool
 waitBefore l X e s w = isWait s (eventIn l w) && ordered l X w e
 
--- a signal a on s that e is not ordered before
-abbrev pub candidate : List Event → Vectors → ℕ → ℕ → ℕ → Bool
-candidate l X e s a = isSignal s (eventIn l a) && not (ordered l X e a)
+-- an event a of this kind on x that e is not ordered before
+abbrev pub candidate : List Event → Vectors → ℕ → ℕ → ℕ → ℕ → Bool
+candidate l X e kind x a = isOn kind x (eventIn l a) && not (ordered l X e a)
 
-unfoldable pub candidatesOn : List Event → Vectors → ℕ → ℕ → List ℕ
-candidatesOn l X e s = picked (candidate l X e s) (length l)
+unfoldable pub candidatesOn : List Event → Vectors → ℕ → ℕ → ℕ → List ℕ
+candidatesOn l X e kind x = picked (candidate l X e kind x) (length l)
 
--- a wait e on s, raised to the k-th least numbers of its candidates
-unfoldable pub waited : Counts → List Event → Vectors → ℕ → ℕ → ℕ → Vectors
-waited c l X e s k = raisedTo (c .tasks) X e (λ t. kthLeast k (map (λ a. number X a t) (candidatesOn l X e s)))
+-- a wait e on x, raised to the k-th least numbers of its candidates, which are of this kind
+unfoldable pub waited : Counts → List Event → Vectors → ℕ → ℕ → ℕ → ℕ → Vectors
+waited c l X e kind x k = raisedTo (c .tasks) X e (kthAmong X k (candidatesOn l X e kind x))
 
 -- step 2 for e
 unfoldable pub stepTwo : Recording → Vectors → ℕ → Vectors

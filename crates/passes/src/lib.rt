@@ -3,28 +3,31 @@ ghost use Prim.Native.Nat.{_+_, _*_, _/_, _≤_, _<_};
 ghost use mathlib.Core.Path.{_≡_};
 ghost use mathlib.Core.List.{[], _++_};
 ghost use lib.Dec.{eqb};
-ghost use lib.ListN.{length, drop};
+ghost use lib.ListN.{length, take, drop};
 ghost use lib.Seq.{sets};
 ghost use mathlib.Core.Bool.{true};
 ghost use Rattle.model.specs.Recording.{eventIn, kindOf, join, isJoin};
 ghost use Rattle.model.specs.File.{eventsOf, levelsBy, recordingBy};
 ghost use Rattle.model.specs.Vectors.{atOrBefore, flat, start, ordered};
-ghost use Rattle.model.specs.Passes.{lastEvent, joinSources, stepOne, kOf, pass, run};
-ghost use Rattle.model.specs.Recorded.{matched, recorded};
+ghost use Rattle.model.specs.Passes.{lastEvent, joinSources, stepOne, postsOn, kOf, pass, run};
+ghost use Rattle.model.specs.Recorded.{matched, opened, recorded};
 ghost use Rattle.model.specs.LastEvent.{NoneAfterJoin};
 ghost use Rattle.vectors.specs.Rows.{Rose};
 ghost use Rattle.passes.specs.Lent.{vectorsIn, over, Becomes, Fitting, Numbered, Records, Placed, Inside, raisedFound};
 ghost use Rattle.events.specs.Kept.{Below, Before};
-ghost use Rattle.passes.specs.Matching.{Matching};
+ghost use Rattle.passes.specs.Matching.{Matching, PostChains};
 ghost use Rattle.passes.specs.Steps.{firstRow, taken, waitBefore, candidate, candidatesOn, waited, stepTwo, raisedEvent, recordedEvent};
-ghost use Rattle.model.specs.Reading.{mostEvents};
+ghost use Rattle.model.specs.Reading.{mostFlags, mostEvents};
 use events::CHAINS;
 use model::Counts;
+use model::FLAG_WAIT;
 use model::FORK;
 use model::Found;
 use model::JOIN;
 use model::MOST_EVENTS;
+use model::MOST_FLAGS;
 use model::MOST_SEMAPHORES;
+use model::POST;
 use model::SIGNAL;
 use model::WAIT;
 
@@ -153,7 +156,7 @@ fn is_wait_before(
     false
 }
 
-// Whether a is a signal on semaphore s that the vectors do not order after event e.
+// Whether a is an event of this kind on object x that the vectors do not order after event e.
 fn is_candidate(
     records: &[u8],
     counts: Counts,
@@ -161,13 +164,14 @@ fn is_candidate(
     v: &[u16],
     a: usize,
     e: usize,
-    s: u16,
+    kind: u8,
+    x: u16,
 ) -> bool
     requires { ⌜ Placed (now records) counts (now positions) × Fitting (now records) counts (now v) ⌝ }
     requires { ⌜ Numbered (now records) a × Numbered (now records) e ⌝ }
-    ensures { λ r. ⌜ r ≡ candidate (eventsOf (now (records .entry))) (vectorsIn (now (records .entry)) counts (now (v .entry))) e s a ⌝ }
+    ensures { λ r. ⌜ r ≡ candidate (eventsOf (now (records .entry))) (vectorsIn (now (records .entry)) counts (now (v .entry))) e kind x a ⌝ }
 {
-    if events::is_on(records, a, SIGNAL, s) {
+    if events::is_on(records, a, kind, x) {
         return !ordered(records, counts, positions, v, e, a);
     }
     false
@@ -196,34 +200,35 @@ fn needed(
         }
         w += 1;
     }
-    let start = events::start_of(levels, s);
+    let start = events::start_of(levels, counts, s);
     if k <= start {
         return 0;
     }
     k - start
 }
 
-// Writes the candidates of a wait e on semaphore s. Answers how many they are.
+// Writes the candidates of a wait e on object x, which events of this kind serve. Answers how many they are.
 fn candidates(
     records: &[u8],
     counts: Counts,
     positions: &[u16],
     v: &[u16],
     e: usize,
-    s: u16,
+    kind: u8,
+    x: u16,
     out: &mut [u16],
 ) -> usize
     requires { ⌜ Placed (now records) counts (now positions) × Fitting (now records) counts (now v) × Numbered (now records) e ⌝ }
     requires { ⌜ mostEvents ≤ length (now out) ⌝ }
-    ensures { λ r. ⌜ r ≡ length (candidatesOn (eventsOf (now (records .entry))) (vectorsIn (now (records .entry)) counts (now (v .entry))) e s) ⌝ }
-    ensures { λ r. ⌜ now (out .exit) ≡ candidatesOn (eventsOf (now (records .entry))) (vectorsIn (now (records .entry)) counts (now (v .entry))) e s
+    ensures { λ r. ⌜ r ≡ length (candidatesOn (eventsOf (now (records .entry))) (vectorsIn (now (records .entry)) counts (now (v .entry))) e kind x) ⌝ }
+    ensures { λ r. ⌜ now (out .exit) ≡ candidatesOn (eventsOf (now (records .entry))) (vectorsIn (now (records .entry)) counts (now (v .entry))) e kind x
         ++ drop r (now (out .entry)) ⌝ }
 {
     let n = records.len() / 4;
     let mut c = 0;
     let mut a = 0;
     while a < n {
-        if is_candidate(records, counts, positions, v, a, e, s) {
+        if is_candidate(records, counts, positions, v, a, e, kind, x) {
             out[c] = a as u16;
             c += 1;
         }
@@ -232,27 +237,30 @@ fn candidates(
     c
 }
 
-// Raises the vector of a wait e on semaphore s to the k-th least numbers of its candidates.
+// Raises the vector of e, a wait of either kind on object x, which events of this kind serve, to the k-th least numbers of
+// its candidates.
 fn raise_wait(
     records: &[u8],
     counts: Counts,
     positions: &[u16],
     e: usize,
-    s: u16,
+    kind: u8,
+    x: u16,
     k: u16,
     v: &mut [u16],
 ) -> bool
     requires { ⌜ Placed (now records) counts (now positions) × Fitting (now records) counts (now v) × Numbered (now records) e ⌝ }
-    ensures { λ _. ⌜ Becomes (λ E X. waited counts (E .events) X e s k) (now (records .entry)) counts [] (now (v .entry)) (now (v .exit)) ⌝ }
+    ensures { λ _. ⌜ Becomes (λ E X. waited counts (E .events) X e kind x k) (now (records .entry)) counts [] (now (v .entry)) (now (v .exit)) ⌝ }
     ensures { λ r. ⌜ Rose (now (v .entry)) (now (v .exit)) r ⌝ }
 {
     let mut found = [0u16; MOST_EVENTS];
-    let c = candidates(records, counts, positions, v, e, s, &mut found);
+    let c = candidates(records, counts, positions, v, e, kind, x, &mut found);
     let tasks = counts.tasks as usize;
     vectors::raise_to_kth(v, e, tasks, &found[..c], k)
 }
 
-// Step 2 for event e. Answers whether any number rose.
+// Step 2 for event e: signals serve a wait, and posts, as many as its flag's post count, a flag wait. Answers whether any
+// number rose.
 fn step_two(
     records: &[u8],
     counts: Counts,
@@ -266,11 +274,15 @@ fn step_two(
     ensures { λ r. ⌜ Rose (now (v .entry)) (now (v .exit)) r ⌝ }
 {
     let w = events::event_at(records, e);
-    if w.kind != WAIT {
-        return false;
+    if w.kind == WAIT {
+        let k = needed(records, counts, levels, positions, v, e, w.object);
+        return raise_wait(records, counts, positions, e, SIGNAL, w.object, k, v);
     }
-    let k = needed(records, counts, levels, positions, v, e, w.object);
-    raise_wait(records, counts, positions, e, w.object, k, v)
+    if w.kind == FLAG_WAIT {
+        let k = events::post_of(levels, counts, w.object);
+        return raise_wait(records, counts, positions, e, POST, w.object, k, v);
+    }
+    false
 }
 
 // Raises event e by both steps. Answers whether any number rose.
@@ -411,16 +423,16 @@ fn take_signal(
     unmatched: &mut [u16; SEMAPHORES],
     chain: &mut [u16; CHAINS],
 ) -> Found
-    requires { ⌜ Records (now records) counts × Numbered (now records) e × Matching (now records) (now levels) e (now unmatched) (now chain) ⌝ }
-    ensures { λ r. ⌜ (r ≡ matched (levelsBy (now (levels .entry))) (eventsOf (now (records .entry))) e) × Below (length (eventsOf (now (records .entry)))) r ⌝ }
-    ensures { λ _. ⌜ Matching (now (records .entry)) (now (levels .entry)) (e + 1) (now (unmatched .exit)) (now (chain .exit)) ⌝ }
+    requires { ⌜ Records (now records) counts × Numbered (now records) e × Matching (now records) (levelsBy counts (now levels)) e (now unmatched) (now chain) ⌝ }
+    ensures { λ r. ⌜ (r ≡ matched (levelsBy counts (now (levels .entry))) (eventsOf (now (records .entry))) e) × Below (length (eventsOf (now (records .entry)))) r ⌝ }
+    ensures { λ _. ⌜ Matching (now (records .entry)) (levelsBy counts (now (levels .entry))) (e + 1) (now (unmatched .exit)) (now (chain .exit)) ⌝ }
 {
     let w = events::event_at(records, e);
     if w.kind != WAIT {
         return Found::Nothing;
     }
     let x = w.object as usize;
-    if unmatched[x] < events::start_of(levels, w.object) {
+    if unmatched[x] < events::start_of(levels, counts, w.object) {
         unmatched[x] += 1;
         return Found::Nothing;
     }
@@ -433,7 +445,50 @@ fn take_signal(
     Found::At(a)
 }
 
-// Makes the recorded vector of event e: step 1, and for a wait the matched signal.
+// Raises vector e to those of the first posts on flag g, at most `most` of them, along their chain.
+fn follow_posts(
+    records: &[u8],
+    counts: Counts,
+    e: usize,
+    posts: &[u16; CHAINS],
+    g: u16,
+    most: u16,
+    v: &mut [u16],
+)
+    requires { ⌜ Records (now records) counts × Fitting (now records) counts (now v) × Numbered (now records) e × PostChains (now records) (now posts) × (g < mostFlags) ⌝ }
+    ensures { λ _. ⌜ Becomes (λ E X. taken counts X (take most (postsOn (E .events) g)) e) (now (records .entry)) counts [] (now (v .entry)) (now (v .exit)) ⌝ }
+{
+    let n = records.len() / 4;
+    let mut followed: u16 = 0;
+    let mut a = events::at_place(posts, MOST_EVENTS + (g as usize));
+    while (followed < most) & (a < n) {
+        vectors::raise_row(v, e, a, counts.tasks as usize);
+        followed += 1;
+        a = events::at_place(posts, a);
+    }
+}
+
+// For a flag wait, raises vector e to those of the first posts on its flag, as many as the post count.
+fn raise_opened(
+    records: &[u8],
+    counts: Counts,
+    levels: &[u8],
+    e: usize,
+    posts: &[u16; CHAINS],
+    v: &mut [u16],
+)
+    requires { ⌜ Records (now records) counts × Fitting (now records) counts (now v) × Numbered (now records) e × PostChains (now records) (now posts) ⌝ }
+    ensures { λ _. ⌜ Becomes (λ E X. taken counts X (opened (E .levels) (E .events) e) e) (now (records .entry)) counts (now (levels .entry)) (now (v .entry)) (now (v .exit)) ⌝ }
+{
+    let w = events::event_at(records, e);
+    if w.kind != FLAG_WAIT {
+        return;
+    }
+    let most = events::post_of(levels, counts, w.object);
+    follow_posts(records, counts, e, posts, w.object, most, v);
+}
+
+// Makes the recorded vector of event e: step 1, for a wait the matched signal, and for a flag wait the first posts.
 fn record_event(
     records: &[u8],
     counts: Counts,
@@ -442,17 +497,19 @@ fn record_event(
     e: usize,
     unmatched: &mut [u16; SEMAPHORES],
     chain: &mut [u16; CHAINS],
+    posts: &[u16; CHAINS],
     v: &mut [u16],
 )
     requires { ⌜ Records (now records) counts × Fitting (now records) counts (now v) × Numbered (now records) e × Before (eventsOf (now records)) (now before) ⌝ }
-    requires { ⌜ Matching (now records) (now levels) e (now unmatched) (now chain) ⌝ }
+    requires { ⌜ Matching (now records) (levelsBy counts (now levels)) e (now unmatched) (now chain) × PostChains (now records) (now posts) ⌝ }
     ensures { λ _. ⌜ Becomes (λ E X. recordedEvent E X e) (now (records .entry)) counts (now (levels .entry)) (now (v .entry)) (now (v .exit)) ⌝ }
-    ensures { λ _. ⌜ Matching (now (records .entry)) (now (levels .entry)) (e + 1) (now (unmatched .exit)) (now (chain .exit)) ⌝ }
+    ensures { λ _. ⌜ Matching (now (records .entry)) (levelsBy counts (now (levels .entry))) (e + 1) (now (unmatched .exit)) (now (chain .exit)) ⌝ }
 {
     step_one(records, counts, before, e, v);
     let signal = take_signal(records, counts, levels, e, unmatched, chain);
     let tasks = counts.tasks as usize;
     raise_found(v, e, tasks, signal);
+    raise_opened(records, counts, levels, e, posts, v);
 }
 
 // Makes the recorded vectors, in file order.
@@ -471,6 +528,7 @@ fn record_all(
     start(records, counts, positions, v);
     let mut unmatched = [0u16; SEMAPHORES];
     let mut chain = events::gather(records, SIGNAL, SIGNAL, MOST_SEMAPHORES);
+    let posts = events::gather(records, POST, POST, MOST_FLAGS);
     let mut e = 0;
     while e < n {
         record_event(
@@ -481,6 +539,7 @@ fn record_all(
             e,
             &mut unmatched,
             &mut chain,
+            &posts,
             v,
         );
         e += 1;

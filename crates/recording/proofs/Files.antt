@@ -6,14 +6,17 @@ use Prim.Native.Nat.{ℕ, _+_, _*_, _≤_, _<_}
 use native.Mathlib.Omega.{arith}
 use borrow.Author.Tests.{le-leb, lt-leb, eq-eqb, ne-eqb}
 use lib.ListN.{length, take, length-take, length-drop}
+use lib.Seq.{take-nil, drop-nil}
+use Rattle.model.specs.declared.Counts.{Counts}
 use Rattle.model.specs.declared.Trailer.{Trailer}
 use Rattle.model.specs.declared.Refusal.{Refusal}
 use Rattle.model.specs.declared.Check.{Check}
 use Rattle.model.specs.declared.Reading.{Reading}
 use Rattle.model.specs.Recording.{size, firstFault}
-use Rattle.model.specs.File.{trailerAt, trailerOf, eventsOf, recordBytes, levelCount, levelBytes, recordingBy, recordingOf}
-use Rattle.model.specs.Reading.{knownEdition, extentMet, inRange, fileCheck, readingBy, readingOf, preambleOf, recordsOf, startsOf}
+use Rattle.model.specs.File.{trailerAt, trailerOf, eventsOf, recordBytes, startCount, levelCount, levelBytes, levelsBy, recordingBy, recordingOf}
+use Rattle.model.specs.Reading.{knownEdition, extentMet, inRange, postsUp, fileCheck, readingBy, readingOf, preambleOf, recordsOf, startsOf, postsOf}
 use Rattle.model.proofs.Files.{events-length, sound, reading-passed, trailer-read}
+use Rattle.recording.specs.Parts.{levelPart}
 
 -- ---- the records' part
 
@@ -65,14 +68,22 @@ module _ (f : List ℕ) where
         unfolding fileCheck extentMet
         out-of-range e = rw (le-leb 16 (length f) a, ← q, b, eq-eqb (h .start + 4 * h .records + levelCount (h .counts)) (trailerAt f) d, e)
 
-        pub by-records : inRange (h .counts) (h .records) ≡ true
-            → (s b : List ℕ) → s ≡ recordBytes f h → b ≡ levelBytes f h
-            → (x : Check) → x ≡ firstFault (recordingBy s (h .counts) b) (h .records)
-            → fileCheck f ≡ x
-        unfolding fileCheck extentMet
-        by-records e s m t u x p =
-            let w = same-check f h q (omega arith) s m t u x p in
-            rw (le-leb 16 (length f) a, ← q, b, eq-eqb (h .start + 4 * h .records + levelCount (h .counts)) (trailerAt f) d, e) w
+        -- the level bytes m, and the post bytes p among them, that the code cuts out
+        module _ (e : inRange (h .counts) (h .records) ≡ true) (m p : List ℕ) (u : m ≡ levelBytes f h) (v : p ≡ levelsBy (h .counts) m .posts) where
+          same-posts : postsUp (recordingOf f .levels .posts) ≡ postsUp p
+          same-posts = rw (recording-is f, ← q, ← u, v)
+
+          pub not-up : postsUp p ≡ false → fileCheck f ≡ Check.Failed Refusal.Count
+          unfolding fileCheck extentMet
+          not-up z = rw (le-leb 16 (length f) a, ← q, b, eq-eqb (h .start + 4 * h .records + levelCount (h .counts)) (trailerAt f) d, e, same-posts, z)
+
+          pub by-records : postsUp p ≡ true → (s : List ℕ) → s ≡ recordBytes f h
+              → (x : Check) → x ≡ firstFault (recordingBy s (h .counts) m) (h .records)
+              → fileCheck f ≡ x
+          unfolding fileCheck extentMet
+          by-records z s t x k =
+              let w = same-check f h q (omega arith) s m t u x k in
+              rw (le-leb 16 (length f) a, ← q, b, eq-eqb (h .start + 4 * h .records + levelCount (h .counts)) (trailerAt f) d, e, same-posts, z) w
 
 -- ---- an accepted file
 
@@ -102,9 +113,9 @@ module _ (f : List ℕ) (h : Trailer) (q : readingOf f ≡ Reading.Accepted h) w
   unfolding recordsOf
   the-records = let (e, p) = accepted-is f h q in rw (p, e)
 
-  pub the-starts : levelBytes f h ≡ startsOf f
-  unfolding startsOf
-  the-starts = let (e, p) = accepted-is f h q in rw (p, e)
+  pub the-levels : levelBytes f h ≡ levelPart f
+  unfolding levelPart
+  the-levels = let (e, p) = accepted-is f h q in rw (p, e)
 
 module _ (f : List ℕ) (r : Refusal) (q : readingOf f ≡ Reading.Refused r) where
   pub no-preamble : [] ≡ preambleOf f
@@ -115,6 +126,21 @@ module _ (f : List ℕ) (r : Refusal) (q : readingOf f ≡ Reading.Refused r) wh
   unfolding recordsOf
   no-records = rw (refused-is f r q)
 
-  pub no-starts : [] ≡ startsOf f
-  unfolding startsOf
-  no-starts = rw (refused-is f r q)
+  pub no-levels : [] ≡ levelPart f
+  unfolding levelPart
+  no-levels = rw (refused-is f r q)
+
+-- ---- start bytes and post bytes: of any file, those that its level bytes give with the counts of its trailer, if it has one
+
+module _ (f : List ℕ) (c : Counts) (own : 16 ≤ length f → c ≡ trailerOf f .counts) where
+  levels-cut : (k : Check) → fileCheck f ≡ k
+      → (levelsBy c (levelPart f) .starts ≡ startsOf f) × (levelsBy c (levelPart f) .posts ≡ postsOf f)
+  unfolding levelPart startsOf postsOf recordingOf
+  levels-cut Check.Passed p = let same = own (sound f p .long) in rw (p, same) (refl, refl)
+  levels-cut (Check.Failed r) p = rw p (take-nil (startCount c), drop-nil (startCount c))
+
+  pub start-part : levelsBy c (levelPart f) .starts ≡ startsOf f
+  start-part = levels-cut (fileCheck f) refl .0
+
+  pub post-part : levelsBy c (levelPart f) .posts ≡ postsOf f
+  post-part = levels-cut (fileCheck f) refl .1

@@ -3,7 +3,8 @@ ghost use mathlib.Core.Path.{_≡_};
 ghost use Prim.Native.Nat.{_+_, _≤_, _<_};
 ghost use lib.ListN.{length};
 ghost use Rattle.model.specs.File.{u32At, trailerOf};
-ghost use Rattle.model.specs.Reading.{readingOf, preambleOf, recordsOf, startsOf};
+ghost use Rattle.model.specs.Reading.{readingOf, preambleOf, recordsOf, startsOf, postsOf};
+ghost use Rattle.recording.specs.Parts.{levelPart};
 use model::Check;
 use model::Counts;
 use model::Reading;
@@ -12,6 +13,7 @@ use model::Trailer;
 use rules::first_fault;
 use rules::in_range;
 use rules::known_edition;
+use rules::posts_up;
 
 // The number of four bytes, little-endian.
 fn u32_at(s: &[u8], i: usize) -> usize
@@ -59,6 +61,9 @@ pub fn read(file: &[u8]) -> Reading
         return Reading::Refused(Refusal::Count);
     }
     let levels = events::levels_of(file, h);
+    if !posts_up(events::post_bytes(levels, counts)) {
+        return Reading::Refused(Refusal::Count);
+    }
     match first_fault(events::records_of(file, h), counts, levels, h.records) {
         Check::Passed => Reading::Accepted(h),
         Check::Failed(r) => Reading::Refused(r),
@@ -88,12 +93,42 @@ pub fn records(file: &[u8]) -> &[u8]
     }
 }
 
-// The start bytes of the file, one for each semaphore; of a refused file, as of edition 1, the empty part.
-pub fn starts(file: &[u8]) -> &[u8]
-    ensures { λ r. ⌜ now r ≡ startsOf (now (file .entry)) ⌝ }
+// The level bytes of the file: start bytes, then post bytes; of a refused file, none.
+fn levels(file: &[u8]) -> &[u8]
+    ensures { λ r. ⌜ now r ≡ levelPart (now (file .entry)) ⌝ }
 {
     match read(file) {
         Reading::Accepted(h) => events::levels_of(file, h),
         Reading::Refused(_) => &file[..0],
     }
+}
+
+// The counts in the file's trailer; where there is none, all 0.
+fn counts_of(file: &[u8]) -> Counts
+    ensures { λ r. ⌜ (16 ≤ length (now (file .entry)) → r ≡ trailerOf (now (file .entry)) .counts) ⌝ }
+{
+    if file.len() < 16 {
+        return Counts {
+            tasks: 0,
+            semaphores: 0,
+            cells: 0,
+            edition: 0,
+        };
+    }
+    let h = trailer_of(file);
+    h.counts
+}
+
+// The start bytes of the file, one for each semaphore; of a refused file, as of edition 1, the empty part.
+pub fn starts(file: &[u8]) -> &[u8]
+    ensures { λ r. ⌜ now r ≡ startsOf (now (file .entry)) ⌝ }
+{
+    events::start_bytes(levels(file), counts_of(file))
+}
+
+// The post bytes of the file, one for each flag; of a refused file, as of editions 1 and 2, the empty part.
+pub fn posts(file: &[u8]) -> &[u8]
+    ensures { λ r. ⌜ now r ≡ postsOf (now (file .entry)) ⌝ }
+{
+    events::post_bytes(levels(file), counts_of(file))
 }

@@ -30,7 +30,7 @@ module _ (f : List ℕ) (x y : ℕ) (w o : List ℕ) where
   unfolding reversedCheck reversedOf workAfterReversing workAfterAsking outAfterReversing
   refused-question r p = record { answer = rw p; work = rw p; out = rw p }
 
-  -- the records s, the counts c and the start bytes b of the file, and its recorded vectors X
+  -- the records s, the counts c and the level bytes b of the file, and its recorded vectors X
   by-parts : questionCheck f x y w ≡ Check.Passed
       → (s : List ℕ) (c : Counts) (b : List ℕ) (X : Vectors) → s ≡ recordBytes f (trailerOf f) → c ≡ trailerOf f .counts → b ≡ levelBytes f (trailerOf f) → X ≡ recorded (recordingOf f)
       → (w′ : List ℕ) → w′ ≡ filled (recordingOf f) 0 w

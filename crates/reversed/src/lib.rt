@@ -5,7 +5,7 @@ ghost use Prim.Native.Nat.{_+_, _/_, _≤_};
 ghost use lib.ListN.{length, take};
 ghost use lib.Seq.{sets};
 ghost use Rattle.model.specs.File.{eventsOf};
-ghost use Rattle.model.specs.Reading.{readingOf, mostEvents, mostSemaphores};
+ghost use Rattle.model.specs.Reading.{readingOf, mostEvents, mostSemaphores, mostFlags};
 ghost use Rattle.model.specs.Reversed.{bringForward, reversedOf, workAfterReversing, outAfterReversing};
 ghost use Rattle.passes.specs.Lent.{vectorsIn, Fitting, Numbered, Placed};
 ghost use Rattle.reversed.specs.Lent.{onSide, sideOf, forwardOf, forwardOut, Reversed};
@@ -96,7 +96,7 @@ fn write_forward(
     other: usize,
     out: &mut [u8],
 ) -> Written
-    requires { ⌜ Placed (now records) counts (now positions) × Fitting (now records) counts (now recorded) × (length (now levels) ≤ mostSemaphores) ⌝ }
+    requires { ⌜ Placed (now records) counts (now positions) × Fitting (now records) counts (now recorded) × (length (now levels) ≤ mostSemaphores + mostFlags) ⌝ }
     requires { ⌜ Numbered (now records) chosen × Numbered (now records) other ⌝ }
     ensures { λ r. ⌜ r ≡ forwardOf (now (records .entry)) (now (levels .entry)) (vectorsIn (now (records .entry)) counts (now (recorded .entry))) chosen other (now (out .entry)) ⌝ }
     ensures { λ _. ⌜ now (out .exit) ≡ forwardOut (now (records .entry)) counts (now (levels .entry)) (vectorsIn (now (records .entry)) counts (now (recorded .entry))) chosen other (now (out .entry)) ⌝ }

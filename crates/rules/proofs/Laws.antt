@@ -1,21 +1,24 @@
--- Laws of the record check that the proofs cite: what a test says, and how the first fault goes on by one record. Assumes nothing.
+-- Laws of the record check that the proofs cite: what a test says, how the first fault goes on by one record, and the look at post counts. Assumes nothing.
 use mathlib.Core.Path.{_≡_, refl, sym, _∙_}
 use mathlib.Core.Bool.{Bool, true, false, not}
 use mathlib.Core.List.{List, [], _∷_, _++_}
 use Prim.Native.Nat.{ℕ, suc, _+_, _-_, _*_, _≤_, _<_}
+use native.Mathlib.Nat.{zero-add}
 use native.Mathlib.Numerals.{add-one}
 use native.Mathlib.Omega.{arith}
 use borrow.Author.Tests.{not-true, not-false}
-use lib.Dec.{ltb}
-use lib.ListN.{length, take}
-use lib.Seq.{length-take-le, take-suc}
+use lib.Dec.{ltb, eqb}
+use lib.ListN.{length, getD, take, drop, drop-of-length-le}
+use lib.Seq.{length-take-le, take-suc, drop-cons}
 use Rattle.model.specs.declared.Event.{Event}
 use Rattle.model.specs.declared.Refusal.{Refusal}
 use Rattle.model.specs.declared.Check.{Check}
+use Rattle.model.specs.Numbers.{count}
 use Rattle.model.specs.Refusals.{andThen}
 use Rattle.model.specs.Recording.{Recording, noEvent, event, recordCheck, firstFault, eventIn}
 use Rattle.model.specs.File.{eventsOf}
-use Rattle.model.proofs.Tests.{cases, tests, lt-ltb}
+use Rattle.model.specs.Reading.{postsUp}
+use Rattle.model.proofs.Tests.{cases, tests, lt-ltb, ne-eqb}
 use Rattle.model.proofs.Checks.{none-yet, the-first}
 use Rattle.model.proofs.Files.{events-length}
 
@@ -59,3 +62,18 @@ by-signals w s n l = sym (lt-ltb w (n + s) (omega arith))
 
 pub by-start : (w s n : ℕ) → s ≤ w → ltb (w - s) n ≡ ltb w (n + s)
 by-start w s n l = cases (ltb (w - s) n) (λ t. rw t (sym (omega tests))) (λ t. rw t (sym (omega tests)))
+
+-- ---- post counts from place i on
+
+module _ (p : List ℕ) (i : ℕ) where
+  pub up-behind : i < length p → ¬ (getD p i 0 ≡ 0) → postsUp (drop i p) ≡ postsUp (drop (i + 1) p)
+  unfolding postsUp count
+  up-behind l n = let t : eqb 0 (getD p i 0) ≡ false = ne-eqb 0 (getD p i 0) (λ q. n (sym q)) in rw (drop-cons p i 0 l, t, add-one i, zero-add)
+
+  pub not-up : i < length p → getD p i 0 ≡ 0 → postsUp (drop i p) ≡ false
+  unfolding postsUp count
+  not-up l z = rw (drop-cons p i 0 l, z) (omega tests)
+
+  pub none-left : length p ≤ i → postsUp (drop i p) ≡ true
+  unfolding postsUp count
+  none-left h = rw (drop-of-length-le p h)

@@ -2,52 +2,57 @@
 ghost use mathlib.Core.Path.{_≡_};
 ghost use mathlib.Core.Bool.{true};
 ghost use mathlib.Core.List.{List};
-ghost use Prim.Native.Nat.{ℕ, _+_, _*_, _≤_, _<_};
+ghost use Prim.Native.Nat.{ℕ, _*_, _≤_, _<_};
 ghost use lib.ListN.{length};
 ghost use Rattle.model.specs.declared.Event.{Event};
 ghost use Rattle.model.specs.Numbers.{count};
 ghost use Rattle.model.specs.Recording.{
-  join,
   ofTask,
   isOn,
   classOf,
   namesOf,
+  lastKind,
   knownKind,
   named,
   forkKept,
   joinKept,
   lifeKept,
   waitKept,
+  flagKept,
   recordCheck,
   firstFault,
 };
 ghost use Rattle.model.specs.File.{levelsBy, recordingBy};
-ghost use Rattle.model.specs.Reading.{knownEdition, inRange};
-ghost use Rattle.rules.specs.Running.{places, Few, Small, Running, Room, notedOn, notedOwn};
+ghost use Rattle.model.specs.Reading.{knownEdition, inRange, postsUp};
+ghost use Rattle.rules.specs.Running.{places, Counted, Few, Small, Running, Room, notedOn, notedOwn};
 use model::Check;
 use model::Class;
 use model::Counts;
 use model::Event;
+use model::FLAG_WAIT;
 use model::FORK;
 use model::JOIN;
 use model::LAST_EDITION;
 use model::MOST_CELLS;
 use model::MOST_EVENTS;
+use model::MOST_FLAGS;
 use model::MOST_SEMAPHORES;
 use model::MOST_TASKS;
+use model::POST;
 use model::Refusal;
 use model::SIGNAL;
 use model::WAIT;
+use model::WITH_FLAGS;
 use model::WRITE;
 
-// The running counts have places for as many objects of a kind as there are semaphores, which are more than tasks.
+// The running counts have places for as many objects of a kind as there are semaphores, or flags, which are more than tasks.
 const PLACES: usize = 64;
 
-// The kinds that are counted by object, signals, waits, forks and joins, and the unused 0.
-const COUNTED: usize = 320;
+// The kinds up to posts. Signals, waits, forks, joins and posts are counted by object; the unused 0, reads and writes are not.
+const COUNTED: usize = 512;
 
 // What the object of each kind names.
-const CLASS: [Class; 7] = [
+const CLASS: [Class; 9] = [
     Class::Nothing, // 0 is no kind
     Class::Semaphore, // 1 signal
     Class::Semaphore, // 2 wait
@@ -55,12 +60,14 @@ const CLASS: [Class; 7] = [
     Class::Task, // 4 join
     Class::Cell, // 5 read
     Class::Cell, // 6 write
+    Class::Flag, // 7 post
+    Class::Flag, // 8 flag wait
 ];
 
 fn class_of(kind: u8) -> Class
     ensures { λ r. ⌜ r ≡ classOf kind ⌝ }
 {
-    if kind <= WRITE {
+    if kind <= FLAG_WAIT {
         let k = kind as usize;
         CLASS[k]
     } else {
@@ -74,9 +81,10 @@ fn names_of(counts: Counts, class: Class) -> u16
 {
     match class {
         Class::Nothing => 0,
-        Class::Semaphore => counts.semaphores,
+        Class::Semaphore => events::semaphores(counts),
         Class::Task => counts.tasks,
         Class::Cell => counts.cells,
+        Class::Flag => events::flags(counts),
     }
 }
 
@@ -91,28 +99,45 @@ pub fn known_edition(counts: Counts) -> bool
 pub fn in_range(counts: Counts, n: usize) -> bool
     ensures { λ r. ⌜ r ≡ inRange counts n ⌝ }
 {
-    if counts.tasks < 1 {
-        return false;
-    }
-    if MOST_TASKS < counts.tasks {
-        return false;
-    }
-    if MOST_SEMAPHORES < counts.semaphores {
-        return false;
-    }
-    if MOST_CELLS < counts.cells {
-        return false;
-    }
-    n <= MOST_EVENTS
+    let semaphores = events::semaphores(counts);
+    let flags = events::flags(counts);
+    (1 <= counts.tasks)
+        & (counts.tasks <= MOST_TASKS)
+        & (semaphores <= MOST_SEMAPHORES)
+        & (flags <= MOST_FLAGS)
+        & (counts.cells <= MOST_CELLS)
+        & (n <= MOST_EVENTS)
 }
 
-fn known_kind(v: Event) -> bool
-    ensures { λ r. ⌜ r ≡ knownKind v ⌝ }
+// Whether no post count is 0.
+pub fn posts_up(posts: &[u8]) -> bool
+    ensures { λ r. ⌜ r ≡ postsUp (now (posts .entry)) ⌝ }
 {
-    if SIGNAL <= v.kind {
-        return v.kind <= WRITE;
+    let mut i = 0;
+    while i < posts.len() {
+        if posts[i] == 0 {
+            return false;
+        }
+        i += 1;
     }
-    false
+    true
+}
+
+// The last kind of these counts' edition.
+fn last_kind(counts: Counts) -> u8
+    ensures { λ r. ⌜ r ≡ lastKind counts ⌝ }
+{
+    if counts.edition == WITH_FLAGS {
+        return FLAG_WAIT;
+    }
+    WRITE
+}
+
+fn known_kind(counts: Counts, v: Event) -> bool
+    ensures { λ r. ⌜ r ≡ knownKind counts v ⌝ }
+{
+    let last = last_kind(counts);
+    (SIGNAL <= v.kind) & (v.kind <= last)
 }
 
 // Whether the event's task and object are below their counts.
@@ -127,7 +152,7 @@ fn is_named(counts: Counts, v: Event) -> bool
 
 // How many events of this kind on this object there have been.
 fn count_on(on: &[u16; COUNTED], kind: u8, object: u16) -> u16
-    requires { ⌜ (kind ≤ join) × (object < places) ⌝ }
+    requires { ⌜ Counted kind × (object < places) ⌝ }
     ensures { λ r. ⌜ ((before : List Event) (own : List ℕ) → Running before (now (on .entry)) own → r ≡ count (isOn kind object) before) ⌝ }
 {
     on[PLACES * (kind as usize) + (object as usize)]
@@ -190,21 +215,33 @@ fn life_kept(on: &[u16; COUNTED], own: &[u16; PLACES], v: Event) -> bool
 }
 
 // The same for the rule on waits. The signals are taken off the waits and not added to the start count: no sum can wrap.
-fn wait_kept(on: &[u16; COUNTED], levels: &[u8], v: Event) -> bool
+fn wait_kept(on: &[u16; COUNTED], counts: Counts, levels: &[u8], v: Event) -> bool
     requires { ⌜ Small v ⌝ }
     ensures { λ r. ⌜ ((before : List Event) (own : List ℕ) → Running before (now (on .entry)) own
-        → r ≡ waitKept (levelsBy (now (levels .entry))) before v) ⌝ }
+        → r ≡ waitKept (levelsBy counts (now (levels .entry))) before v) ⌝ }
 {
     if v.kind != WAIT {
         return true;
     }
-    let start = events::start_of(levels, v.object);
+    let start = events::start_of(levels, counts, v.object);
     let signals = count_on(on, SIGNAL, v.object);
     let waits = count_on(on, WAIT, v.object);
     if waits < signals {
         return true;
     }
     waits - signals < start
+}
+
+// The same for the rule on flag waits.
+fn flag_kept(on: &[u16; COUNTED], counts: Counts, levels: &[u8], v: Event) -> bool
+    requires { ⌜ Small v ⌝ }
+    ensures { λ r. ⌜ ((before : List Event) (own : List ℕ) → Running before (now (on .entry)) own
+        → r ≡ flagKept (levelsBy counts (now (levels .entry))) before v) ⌝ }
+{
+    if v.kind != FLAG_WAIT {
+        return true;
+    }
+    events::post_of(levels, counts, v.object) <= count_on(on, POST, v.object)
 }
 
 // Checks the event v as record n.
@@ -218,9 +255,9 @@ fn record_check(
 ) -> Check
     requires { ⌜ Few counts ⌝ }
     ensures { λ r. ⌜ ((before : List Event) → Running before (now (on .entry)) (now (own .entry)) → length before ≡ n
-        → r ≡ recordCheck counts (levelsBy (now (levels .entry))) before v) ⌝ }
+        → r ≡ recordCheck counts (levelsBy counts (now (levels .entry))) before v) ⌝ }
 {
-    if !known_kind(v) {
+    if !known_kind(counts, v) {
         return Check::Failed(Refusal::Kind(n));
     }
     if !is_named(counts, v) {
@@ -229,8 +266,11 @@ fn record_check(
     if !life_kept(on, own, v) {
         return Check::Failed(Refusal::Life(n));
     }
-    if !wait_kept(on, levels, v) {
+    if !wait_kept(on, counts, levels, v) {
         return Check::Failed(Refusal::Empty(n));
+    }
+    if !flag_kept(on, counts, levels, v) {
+        return Check::Failed(Refusal::Flag(n));
     }
     Check::Passed
 }
@@ -243,7 +283,7 @@ fn note(on: &mut [u16; COUNTED], own: &mut [u16; PLACES], v: Event)
 {
     let task = v.task as usize;
     own[task] += 1;
-    if v.kind <= JOIN {
+    if (v.kind <= JOIN) | (v.kind == POST) {
         let at = PLACES * (v.kind as usize) + (v.object as usize);
         on[at] += 1;
     }

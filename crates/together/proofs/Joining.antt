@@ -126,4 +126,4 @@ named-levels l s c v R kept = refl
 -- records of as many tasks by other counts
 pub records-by : (s : List ℕ) (c d : Counts) → c .tasks ≡ d .tasks → Records s c → Records s d
 records-by s c d e r =
-    record { whole = r .whole; few = r .few; named = λ a l. subst (λ (k : ℕ). eventIn (eventsOf s) a .task < k) e (r .named a l); waits = r .waits; joined = r .joined }
+    record { whole = r .whole; few = r .few; named = λ a l. subst (λ (k : ℕ). eventIn (eventsOf s) a .task < k) e (r .named a l); waits = r .waits; flag-waits = r .flag-waits; joined = r .joined }

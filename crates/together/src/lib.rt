@@ -135,15 +135,14 @@ fn name_all(
     ensures { λ _. ⌜ NamedAll (now (first .entry)) (now (second .entry)) counts (now (work .entry)) pairs (now (list .entry)) (now (list .exit)) ⌝ }
 {
     let kept = alike::counterparts(first, second, counts.tasks);
-    let half = work::numbers(second, counts);
-    let end = 2 * half;
+    let recorded = work::recorded_part(second, counts, work);
     name_entries(
         first,
         here,
         second,
         counts,
         there,
-        &work[half..end],
+        recorded,
         &kept,
         pairs,
         list,

@@ -10,9 +10,10 @@ use Rattle.model.specs.declared.Counts.{Counts}
 use Rattle.model.specs.declared.Trailer.{Trailer}
 use Rattle.model.specs.declared.Check.{Check}
 use Rattle.model.specs.declared.Reading.{Reading}
-use Rattle.model.specs.Recording.{Recording, size, kindOf, objectOf, classOf, Accepted, wait}
-use Rattle.model.specs.File.{trailerOf, recordBytes, levelCount, levelBytes, recordingBy, recordingOf}
-use Rattle.model.specs.Reading.{fileCheck, readingOf, mostSemaphores, mostEvents}
+use Rattle.model.specs.Recording.{Recording, size, kindOf, objectOf, namesOf, classOf, Accepted, wait, flagWait}
+use Rattle.model.specs.File.{trailerOf, recordBytes, startCount, levelCount, levelBytes, recordingBy, recordingOf}
+use Rattle.model.specs.Reading.{fileCheck, readingOf, mostSemaphores, mostFlags, mostEvents}
+use Rattle.model.specs.Acceptable.{InRange}
 use Rattle.model.specs.Passes.{budgetOf}
 use Rattle.model.proofs.Tests.{cases, le-leb}
 use Rattle.model.proofs.Accept.{task-inside, object-inside}
@@ -21,10 +22,17 @@ use Rattle.model.proofs.Files.{sound, bytes-length, size-records}
 use Rattle.recording.proofs.Files.{accepted-is, within}
 use Rattle.work.specs.Lent.{Ready, budgetIn}
 
--- a wait names a semaphore
-semaphore-inside : (E : Recording) → Accepted E → (e : ℕ) → e < size E → kindOf E e ≡ wait → objectOf E e < E .counts .semaphores
-unfolding classOf
-semaphore-inside E acc e l w = rw w at (object-inside E acc e l)
+-- an event of kind k names one of k's class, of which there are at most `most`
+named-below : (E : Recording) → Accepted E → (k most : ℕ) → namesOf (E .counts) (classOf k) ≤ most → (e : ℕ) → e < size E → kindOf E e ≡ k → objectOf E e < most
+named-below E acc k most few e l w =
+    let low : objectOf E e < namesOf (E .counts) (classOf k) = subst (λ (j : ℕ). objectOf E e < namesOf (E .counts) (classOf j)) w (object-inside E acc e l) in
+    omega arith
+
+-- as many level bytes as there may be: a start byte for each semaphore, a post byte for each flag
+few-counted : (c : Counts) (n : ℕ) → InRange c n → levelCount c ≤ mostSemaphores + mostFlags
+unfolding levelCount startCount
+few-counted c n r =
+    cases (eqb (c .edition) 1) (λ t. rw t (omega (arith, r .few-flags))) (λ t. rw t (omega (arith, r .few-semaphores, r .few-flags)))
 
 -- the budget of record bytes is that of their recording
 pub ready-budget : (s : List ℕ) (c : Counts) (v : List ℕ) → Ready s c → budgetIn s ≡ budgetOf (recordingBy s c v)
@@ -55,38 +63,34 @@ module _ (f : List ℕ) (h : Trailer) (q : readingOf f ≡ Reading.Accepted h) w
         ap₂ (λ (l : List ℕ) (c : Counts). recordingBy l c v) (e ∙ ap (recordBytes f) trailer) (ap (λ (x : Trailer). x .counts) trailer)
         ∙ ap (recordingBy (recordBytes f (trailerOf f)) (trailerOf f .counts)) (g ∙ ap (levelBytes f) trailer)
 
+    range : InRange (h .counts) (h .records)
+    range = subst (λ (x : Trailer). InRange (x .counts) (x .records)) (sym trailer) (sound f passed .range)
+
     pub ready : Ready s (h .counts)
+    unfolding classOf
     ready =
         let u = sound f passed in
-        let r = u .range in
         let E = recordingBy s (h .counts) v in
         let n : size E ≡ trailerOf f .records = ap size the-recording ∙ size-records f u in
-        let k : h .counts ≡ trailerOf f .counts = ap (λ (x : Trailer). x .counts) trailer in
-        let t : h .counts .tasks ≡ trailerOf f .counts .tasks = ap (λ (x : Counts). x .tasks) k in
-        let m : h .counts .semaphores ≡ trailerOf f .counts .semaphores = ap (λ (x : Counts). x .semaphores) k in
-        let d : h .counts .cells ≡ trailerOf f .counts .cells = ap (λ (x : Counts). x .cells) k in
         let acc = subst Accepted (sym the-recording) (u .accepted) in
         record {
           records =
               record {
                 whole = ap length (e ∙ ap (recordBytes f) trailer) ∙ bytes-length f u ∙ ap (λ (m : ℕ). 4 * m) (sym n);
-                few = omega (arith, n, r .few-records);
+                few = omega (arith, n, u .range .few-records);
                 named = task-inside E acc;
-                waits = λ e l w. omega (arith, m, r .few-semaphores, semaphore-inside E acc e l w);
+                waits = named-below E acc wait mostSemaphores (range .few-semaphores);
+                flag-waits = named-below E acc flagWait mostFlags (range .few-flags);
                 joined = none-after-join E acc;
               };
-          tasks = omega (arith, t, r .few-tasks);
-          cells = omega (arith, d, r .few-cells);
+          tasks = range .few-tasks;
+          cells = range .few-cells;
         }
 
-    -- a start byte for each semaphore at most
-    pub few-levels : length v ≤ mostSemaphores
-    unfolding levelBytes levelCount
-    few-levels =
-        let k : h .counts .semaphores ≡ trailerOf f .counts .semaphores = ap (λ (x : Trailer). x .counts .semaphores) trailer in
-        let n : length v ≤ levelCount (h .counts) = omega (arith, ap length g, length-take (levelCount (h .counts)) (drop (h .start + 4 * h .records) f)) in
-        cases (eqb (h .counts .edition) 1) (λ t. let m : length v ≤ 0 = rw t at n in omega arith)
-        (λ t. let m : length v ≤ h .counts .semaphores = rw t at n in omega (arith, k, sound f passed .range .few-semaphores))
+    -- no more level bytes than these
+    pub few-levels : length v ≤ mostSemaphores + mostFlags
+    unfolding levelBytes
+    few-levels = omega (arith, ap length g, length-take (levelCount (h .counts)) (drop (h .start + 4 * h .records) f), few-counted (h .counts) (h .records) range)
 
     -- by these records, the budget of a run that settles is the recording's
     pub the-budget : budgetIn s ≡ budgetOf (recordingOf f)

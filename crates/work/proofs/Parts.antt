@@ -1,6 +1,6 @@
 -- Work numbers lent in two parts, the first n numbers and those behind them.
 -- Assumes nothing.
-use mathlib.Core.Path.{_≡_, refl, sym, ap, ap₂, subst, _∙_}
+use mathlib.Core.Path.{_≡_, refl, sym, ap, ap₂, _∙_}
 use mathlib.Core.Bool.{true}
 use mathlib.Core.List.{List, [], _++_, append-nil, append-assoc}
 use Prim.Native.Nat.{ℕ, _+_, _-_, _*_, _/_, _≤_}
@@ -12,7 +12,7 @@ use borrow.Rule.Slice.PartMut.{midOf, putMid}
 use Rattle.model.specs.declared.Counts.{Counts}
 use Rattle.model.specs.Recording.{Recording, size, tasks}
 use Rattle.model.specs.File.{eventsOf, recordingBy}
-use Rattle.model.specs.Vectors.{Vectors, flat}
+use Rattle.model.specs.Vectors.{flat}
 use Rattle.model.specs.Passes.{safeVectors}
 use Rattle.model.specs.Recorded.{recorded}
 use Rattle.model.specs.Analysing.{workFits, filled}
@@ -43,13 +43,9 @@ module _ (w : List ℕ) (n : ℕ) (h : 2 * n ≤ length w) where
       let k : 2 * n - n ≡ n = omega arith in
       rw k (length-take-le n (drop n w) (omega (arith, length-drop n w)))
 
--- they are the safe and the recorded vectors
-pub as-vectors : (s : List ℕ) (c : Counts) (w : List ℕ) (n : ℕ) → n ≡ numbers s c → (P : Vectors → Vectors → Type 0)
-    → P (vectorsIn s c (take n w)) (vectorsIn s c (take (2 * n - n) (drop n w))) → P (safeIn s c w) (recordedIn s c w)
-as-vectors s c w n e P p =
-    let k : 2 * n - n ≡ n = omega arith in
-    subst (λ (m : ℕ). P (vectorsIn s c (take m w)) (vectorsIn s c (take m (drop m w)))) e
-    (subst (λ (m : ℕ). P (vectorsIn s c (take n w)) (vectorsIn s c (take m (drop n w)))) k p)
+-- the second are the recorded vectors
+pub second-vectors : (s : List ℕ) (c : Counts) (w : List ℕ) (n : ℕ) → n ≡ numbers s c → vectorsIn s c (take (2 * n - n) (drop n w)) ≡ recordedIn s c w
+second-vectors s c w n e = let k : 2 * n - n ≡ n = omega arith in rw (k, e)
 
 -- ---- two parts to write
 

@@ -13,7 +13,7 @@ ghost use Rattle.model.specs.Question.{relationBy, twoEvents, askedCheck};
 ghost use Rattle.passes.specs.Lent.{vectorsIn, Fitting, Numbered};
 ghost use Rattle.pairs.specs.Lent.{Width, WrittenList};
 ghost use Rattle.events.specs.Kept.{Positions};
-ghost use Rattle.work.specs.Lent.{Ready, numbers, Roomy, recordedIn, inWork, budgetIn};
+ghost use Rattle.work.specs.Lent.{Ready, numbers, Roomy, safeIn, recordedIn, inWork, budgetIn};
 use model::Check;
 use model::Counts;
 use model::MOST_EVENTS;
@@ -34,7 +34,7 @@ pub fn budget_of(records: &[u8]) -> u32
 }
 
 // How many numbers the vectors of these records have: N × T.
-pub fn numbers(records: &[u8], counts: Counts) -> usize
+fn numbers(records: &[u8], counts: Counts) -> usize
     requires { ⌜ Ready (now records) counts ⌝ }
     ensures { λ r. ⌜ (r ≡ numbers (now (records .entry)) counts) × (r ≤ 16384) ⌝ }
 {
@@ -119,7 +119,16 @@ pub fn fill_asked(
     Check::Passed
 }
 
-// The recorded vectors in the work numbers, as numbers.
+// The safe vectors in the work numbers, as numbers.
+fn safe_part<'a>(records: &[u8], counts: Counts, work: &'a [u16]) -> &'a [u16]
+    requires { ⌜ Ready (now records) counts × Roomy (now records) counts (now work) ⌝ }
+    ensures { λ r. ⌜ (vectorsIn (now (records .entry)) counts (now r) ≡ safeIn (now (records .entry)) counts (now (work .entry))) × Fitting (now (records .entry)) counts (now r) ⌝ }
+{
+    let half = numbers(records, counts);
+    &work[..half]
+}
+
+// The recorded vectors behind them.
 pub fn recorded_part<'a>(records: &[u8], counts: Counts, work: &'a [u16]) -> &'a [u16]
     requires { ⌜ Ready (now records) counts × Roomy (now records) counts (now work) ⌝ }
     ensures { λ r. ⌜ (vectorsIn (now (records .entry)) counts (now r) ≡ recordedIn (now (records .entry)) counts (now (work .entry))) × Fitting (now (records .entry)) counts (now r) ⌝ }
@@ -141,17 +150,9 @@ pub fn list_pairs(
     requires { ⌜ Ready (now records) counts × Roomy (now records) counts (now work) × Positions (eventsOf (now records)) (now positions) × Width width ⌝ }
     ensures { λ r. ⌜ WrittenList width (inWork entries (now (records .entry)) counts (now (work .entry))) (now (list .entry)) (now (list .exit)) (r .fits) (r .pairs) ⌝ }
 {
-    let half = numbers(records, counts);
-    let end = 2 * half;
-    pairs::list(
-        records,
-        counts,
-        positions,
-        &work[..half],
-        &work[half..end],
-        width,
-        list,
-    )
+    let safe = safe_part(records, counts, work);
+    let recorded = recorded_part(records, counts, work);
+    pairs::list(records, counts, positions, safe, recorded, width, list)
 }
 
 // How events a and b stand to each other by the vectors in the work numbers.
@@ -167,15 +168,7 @@ pub fn relate(
     requires { ⌜ Numbered (now records) a × Numbered (now records) b ⌝ }
     ensures { λ r. ⌜ r ≡ inWork relationBy (now (records .entry)) counts (now (work .entry)) a b ⌝ }
 {
-    let half = numbers(records, counts);
-    let end = 2 * half;
-    pairs::relation(
-        records,
-        counts,
-        positions,
-        &work[..half],
-        &work[half..end],
-        a,
-        b,
-    )
+    let safe = safe_part(records, counts, work);
+    let recorded = recorded_part(records, counts, work);
+    pairs::relation(records, counts, positions, safe, recorded, a, b)
 }

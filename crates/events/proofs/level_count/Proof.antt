@@ -1,18 +1,13 @@
--- `events::level_count` meets its contract: none in edition 1, else one for each semaphore. Assumes nothing.
+-- `events::level_count` meets its contract: the start bytes and the post bytes together. Assumes nothing.
 use native.Mathlib.Omega.{arith}
 use borrow.Author.Needs.{needs}
-use borrow.Author.Tests.{eq-eqb, ne-eqb}
 use Rattle.model.specs.File.{levelCount}
 use Rattle.events.proofs.level_count.Statement.{statement}
 use Rattle.events.proofs.level_count.Tie as tie
 
 returns : tie.Need-returns
 unfolding levelCount
-returns c = (simp (eq-eqb _ _ (c .if1 .taken)), omega arith)
-
-returns-2 : tie.Need-returns-2
-unfolding levelCount
-returns-2 c = (simp (ne-eqb _ _ (c .before .if1 .left)), search needs)
+returns c = (rw (c .before .start-count .ensures .0, c .flags .ensures), omega arith)
 
 pub level-count-spec : {M : Type 1} → statement M
-level-count-spec = tie.close (tie.spec returns (λ c. search needs) returns-2)
+level-count-spec = tie.close (tie.spec (λ c κs. search needs) (λ c κs. search needs) (λ c. search needs) (λ c. omega arith) returns)

@@ -1,16 +1,10 @@
--- `events::start_of` meets its contract. A byte is below 256, by the slice's rule. Assumes nothing.
-use mathlib.Core.Path.{sym}
-use native.Mathlib.Omega.{arith}
+-- `events::start_of` meets its contract: the byte of the semaphore among the start bytes. Assumes nothing.
 use borrow.Author.Needs.{needs}
-use lib.ListN.{List·getD-eq-default}
 use Rattle.events.proofs.start_of.Statement.{statement}
 use Rattle.events.proofs.start_of.Tie as tie
 
-cast-result : tie.Need-cast-result
-cast-result c = omega (arith, c .shared-slice-known .given (c .before .before .args .s))
-
-returns-2 : tie.Need-returns-2
-returns-2 c = sym (List·getD-eq-default (c .before .args .levels .now) 0 (omega arith))
+returns : tie.Need-returns
+returns c = rw (c .level-at .ensures, c .before .start-bytes .ensures)
 
 pub start-of-spec : {M : Type 1} → statement M
-start-of-spec = tie.close (tie.spec (λ c. omega arith) cast-result (λ c. search needs) returns-2)
+start-of-spec = tie.close (tie.spec (λ c κs. search needs) (λ c κs. search needs) returns)

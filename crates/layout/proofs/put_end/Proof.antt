@@ -1,4 +1,4 @@
--- `layout::put_end` meets its contract. The start bytes are copied behind the n bytes, and the trailer behind them. Assumes nothing.
+-- `layout::put_end` meets its contract. The level bytes are copied behind the n bytes, and the trailer behind them. Assumes nothing.
 use native.Mathlib.Omega.{arith}
 use borrow.Author.Needs.{needs}
 use Rattle.layout.proofs.Copies.{ended}
@@ -11,7 +11,7 @@ returns c =
     let made = two .before .before .before in
     let one = made .before .before .before in
     let a = one .before .before .before .before .args in
-    ended (a .out .now) (a .starts .now) (one .copy-at .last .1 .0) (made .trailer-bytes .result) _ (a .n) (a .counts) (omega arith)
+    ended (a .out .now) (a .levels .now) (one .copy-at .last .1 .0) (made .trailer-bytes .result) _ (a .n) (a .counts) (omega arith)
     (one .copy-at .ensures) (made .trailer-bytes .ensures) (two .copy-at2 .ensures)
 
 pub put-end-spec : {M : Type 1} → statement M

@@ -14,7 +14,7 @@ returns c =
     let copy = end .before .before .before .before in
     let a = copy .before .before .before .before .before .args in
     let p = rw (zero-add (length (a .records .now))) at (copy .copy-at .ensures) in
-    filed (a .records .now) (a .out .now) (copy .copy-at .last .1 .0) (length (a .records .now)) refl p (a .counts) (a .starts .now) _
+    filed (a .records .now) (a .out .now) (copy .copy-at .last .1 .0) (length (a .records .now)) refl p (a .counts) (a .levels .now) _
     (end .put-end .ensures)
 
 pub put-file-spec : {M : Type 1} → statement M

@@ -17,7 +17,7 @@ returns c =
     let s = a .records .now in
     let o = a .order .now in
     filed (recordsIn s o) (a .out .now) (copy .put-records .last .1 .1 .0) (4 * length o) (in-length s o) (copy .put-records .ensures)
-    (a .counts) (a .starts .now) _ (end .put-end .ensures)
+    (a .counts) (a .levels .now) _ (end .put-end .ensures)
 
 pub put-picked-spec : {M : Type 1} → statement M
 put-picked-spec =

@@ -10,14 +10,14 @@ trailer start n t s c edition = start ∷ 0 ∷ 0 ∷ 0 ∷ n ∷ 0 ∷ 0 ∷ 0 
 
 pub record Faults : Type 0 where
   -- 1 to 4, then the first faulty record by 5 to 8
-  pub edition-before-extent : Refuses (trailer 4 0 0 0 0 3) 2 0
+  pub edition-before-extent : Refuses (trailer 4 0 0 0 0 4) 2 0
   pub extent-before-count : Refuses (trailer 4 0 0 0 0 1) 3 0
   pub count-before-records : Refuses (of 7 0 0 ++ trailer 0 1 0 0 0 1) 4 0
   pub first-record : Refuses (file 1 1 0 (P 0 ++ of 7 0 0)) 8 0
   pub kind-before-name : Refuses (file 1 0 0 (of 7 1 0)) 5 0
   pub name-before-life : Refuses (file 1 0 0 (Join 0 1)) 6 0
   pub life-before-empty : Refuses (file 2 1 0 (Fork 0 1 ++ Join 0 1 ++ P 1)) 7 2
-  -- kinds are 1 to 6
+  -- kinds are 1 to 6 in edition 1
   pub kind-0 : Refuses (file 1 1 1 (W 0 ++ of 0 0 0)) 5 1
   pub kind-7 : Refuses (file 1 1 1 (W 0 ++ of 7 0 0)) 5 1
   -- a task and each kind's object are below their counts: here 3 tasks, 1 semaphore, 2 cells

@@ -1,4 +1,4 @@
--- Two recordings held together (document 02, No. 4): the recordings of document 01 with themselves, two that differ in their recorded
+-- Two recordings held together (document 02, No. 4 and 6): the recordings of document 01 with themselves, two that differ in their recorded
 -- runs, each way in which two recordings differ, which refusal is answered where two apply, and what is left in the lent memory.
 -- Proved as `joined` in proofs/Rows.antt. Assumes nothing.
 use Prim.Native.Nat.{ℕ, _/_}
@@ -9,8 +9,9 @@ use Rattle.model.specs.declared.Refusal.{Refusal}
 use Rattle.model.specs.declared.Joint.{Joint}
 use Rattle.model.specs.Refusals.{numberOf, recordOf, differingTask, differingPosition}
 use Rattle.model.specs.Together.{jointOf, firstWorkAfter, secondWorkAfter, jointListAfter}
-use Rattle.model.specs.Rows.Starred.{of, W, R, file, A, B, C, D, E, F, G, H, I, J, work, room, RefusedAs}
+use Rattle.model.specs.Rows.Starred.{of, W, R, S, P, file, A, B, C, D, E, F, G, H, I, J, work, room, RefusedAs}
 use Rattle.model.specs.Rows.Started.{pool, once}
+use Rattle.model.specs.Rows.Flagged.{kernel, after, either, sooner}
 use Rattle.model.specs.Rows.Table.{lent}
 
 -- held together, f and g list just these numbers, five an entry
@@ -65,10 +66,13 @@ pub record Joined : Type 0 where
   -- B and C are one job: its pair is open in B and sure in C, and so sure in both, by the second alone and by the first alone
   pub sure-by-second : Lists B C B-and-C
   pub sure-by-first : Lists C B B-and-C
+  -- and so with a flag, where the recorded run follows the first post
+  pub flag-by-second : Lists (after 1 either) (after 1 sooner) (0 ∷ 1 ∷ 1 ∷ 2 ∷ 1 ∷ [])
+  pub flag-by-first : Lists (after 1 sooner) (after 1 either) (0 ∷ 1 ∷ 1 ∷ 2 ∷ 1 ∷ [])
   -- the order of the list is by cell, task and position, whatever order the records arrived in
   pub in-order : Lists job shuffled (0 ∷ 1 ∷ 1 ∷ 1 ∷ 1 ∷ 0 ∷ 2 ∷ 1 ∷ 2 ∷ 1 ∷ [])
   pub in-order-turned : Lists shuffled job (0 ∷ 1 ∷ 1 ∷ 1 ∷ 1 ∷ 0 ∷ 2 ∷ 1 ∷ 2 ∷ 1 ∷ [])
-  -- counts and start counts, with task 0 and position 0; edition 1 starts at 0, and the editions may differ
+  -- counts, start counts and post counts, with task 0 and position 0; edition 1 starts at 0, and the editions may differ
   pub tasks : Differ (file 2 1 1 (W 0)) (file 3 1 1 (W 0)) 0 0
   pub semaphores : Differ (file 2 1 1 (W 0)) (file 2 2 1 (W 0)) 0 0
   pub cells : Differ (file 2 1 1 (W 0)) (file 2 1 2 (W 0)) 0 0
@@ -76,6 +80,13 @@ pub record Joined : Type 0 where
   pub second-start : Differ (pool 1 2 0 (4 ∷ 5 ∷ []) []) (pool 1 2 0 (4 ∷ 6 ∷ []) []) 0 0
   pub starts-edition-1 : Differ A (once 1) 0 0
   pub editions : Lists A (once 0) []
+  pub flags : Differ (kernel 1 1 1 0 (1 ∷ []) (1 ∷ []) []) (kernel 1 1 2 0 (1 ∷ []) (1 ∷ 1 ∷ []) []) 0 0
+  pub no-flags : Differ (kernel 1 0 1 0 [] (1 ∷ []) []) (file 1 0 0 []) 0 0
+  pub posts : Differ (after 1 either) (after 2 either) 0 0
+  pub second-post : Differ (kernel 1 0 2 0 [] (4 ∷ 5 ∷ []) []) (kernel 1 0 2 0 [] (4 ∷ 6 ∷ []) []) 0 0
+  pub starts-edition-3 : Differ (kernel 1 1 1 0 (4 ∷ []) (1 ∷ []) []) (kernel 1 1 1 0 (5 ∷ []) (1 ∷ []) []) 0 0
+  pub posts-before-records : Differ (after 1 (W 0)) (after 2 (R 0)) 0 0
+  pub editions-1-3 : Lists A (kernel 2 1 0 1 (0 ∷ []) [] (W 0 ++ S 0 ++ P 1 ++ R 1)) []
   pub counts-before-records : Differ (file 2 1 1 (W 0)) (file 3 1 1 (R 0)) 0 0
   -- kind, object, a missing record in either, at the first position that differs, of the lowest task that does
   pub kind : Differ (file 1 1 1 (W 0 ++ R 0)) (file 1 1 1 (W 0 ++ W 0)) 0 2

@@ -10,7 +10,8 @@ use Rattle.model.specs.Writing.{writtenOf, outAfterWriting}
 use Rattle.model.specs.Rows.Starred.{W, Fork, file, A, I}
 use Rattle.model.specs.Rows.Faults.{trailer}
 use Rattle.model.specs.Rows.Raised.{idle}
-use Rattle.model.specs.Rows.Table.{lent, least, edited}
+use Rattle.model.specs.Rows.Flagged.{Post, Await}
+use Rattle.model.specs.Rows.Table.{lent, least, edited, flagged}
 
 -- the vectors of A at the start and once raised, which are the recorded ones too
 abbrev pub A-start : List ℕ
@@ -41,12 +42,16 @@ pub record Lent : Type 0 where
   pub ask-event : workAfterAsking A 3 3 0 (lent 17) ≡ lent 17
   pub ask-work-short : workAfterAsking A 0 3 0 (lent 15) ≡ lent 15
   -- writing: the length and the file, and beyond it what was there; refused by a record, by 13, and by 12
-  pub length : writtenOf (W 0) least [] (lent 21) ≡ Written.Length 20
-  pub written : outAfterWriting (W 0) least [] (lent 21) ≡ W 0 ++ trailer 0 1 1 0 1 1 ++ lent 1
-  pub no-records : outAfterWriting [] least [] (lent 17) ≡ trailer 0 0 1 0 1 1 ++ lent 1
-  pub just-fits : writtenOf (W 0) least [] (lent 20) ≡ Written.Length 20
-  pub length-starts : writtenOf (W 0) (edited 2) (4 ∷ 255 ∷ []) (lent 23) ≡ Written.Length 22
-  pub written-starts : outAfterWriting (W 0) (edited 2) (4 ∷ 255 ∷ []) (lent 23) ≡ W 0 ++ (4 ∷ 255 ∷ trailer 0 1 1 2 1 2) ++ lent 1
-  pub record-refused : outAfterWriting (Fork 0 0) least [] (lent 21) ≡ lent 21
-  pub starts-refused : outAfterWriting (W 0) (edited 2) (lent 1) (lent 23) ≡ lent 23
-  pub out-short : outAfterWriting (W 0) least [] (lent 19) ≡ lent 19
+  pub length : writtenOf (W 0) least [] [] (lent 21) ≡ Written.Length 20
+  pub written : outAfterWriting (W 0) least [] [] (lent 21) ≡ W 0 ++ trailer 0 1 1 0 1 1 ++ lent 1
+  pub no-records : outAfterWriting [] least [] [] (lent 17) ≡ trailer 0 0 1 0 1 1 ++ lent 1
+  pub just-fits : writtenOf (W 0) least [] [] (lent 20) ≡ Written.Length 20
+  pub length-starts : writtenOf (W 0) (edited 2) (4 ∷ 255 ∷ []) [] (lent 23) ≡ Written.Length 22
+  pub written-starts : outAfterWriting (W 0) (edited 2) (4 ∷ 255 ∷ []) [] (lent 23) ≡ W 0 ++ (4 ∷ 255 ∷ trailer 0 1 1 2 1 2) ++ lent 1
+  pub length-posts : writtenOf (Post 0 ++ Await 0) flagged (4 ∷ 255 ∷ []) (1 ∷ []) (lent 27) ≡ Written.Length 27
+  pub written-posts : outAfterWriting (Post 0 ++ Await 0) flagged (4 ∷ 255 ∷ []) (1 ∷ []) (lent 28)
+      ≡ Post 0 ++ Await 0 ++ (4 ∷ 255 ∷ 1 ∷ 0 ∷ 0 ∷ 0 ∷ 0 ∷ 2 ∷ 0 ∷ 0 ∷ 0 ∷ 1 ∷ 0 ∷ 2 ∷ 1 ∷ 1 ∷ 0 ∷ 3 ∷ 0 ∷ []) ++ lent 1
+  pub record-refused : outAfterWriting (Fork 0 0) least [] [] (lent 21) ≡ lent 21
+  pub starts-refused : outAfterWriting (W 0) (edited 2) (lent 1) [] (lent 23) ≡ lent 23
+  pub posts-refused : outAfterWriting (W 0) flagged (lent 2) (0 ∷ []) (lent 30) ≡ lent 30
+  pub out-short : outAfterWriting (W 0) least [] [] (lent 19) ≡ lent 19

@@ -1,4 +1,4 @@
--- Orders that show a pair reversed (document 02, No. 5): the sure pairs of documents 01 and 02 written both ways, pairs that the recorded
+-- Orders that show a pair reversed (document 02, No. 5 and 6): the sure pairs of documents 01 and 02 written both ways, pairs that the recorded
 -- run orders, which refusal is answered where two apply, and what is left in the lent memory.
 -- Proved as `turned` in proofs/Rows.antt. Assumes nothing.
 use Prim.Native.Nat.{ℕ, _+_}
@@ -12,6 +12,7 @@ use Rattle.model.specs.Reversed.{reversedOf, workAfterReversing, outAfte
 use Rattle.model.specs.Rows.Starred.{W, R, S, P, Fork, Join, file, A, B, C, E, G, I, work, RefusedAs}
 use Rattle.model.specs.Rows.Started.{pool}
 use Rattle.model.specs.Rows.Faults.{trailer}
+use Rattle.model.specs.Rows.Flagged.{Post, Await, kernel, after, either, sooner}
 use Rattle.model.specs.Rows.Table.{lent}
 use Rattle.model.specs.Rows.Lent.{A-start, A-raised}
 
@@ -32,6 +33,10 @@ Refused f x y m k number e = RefusedAs Written.Refused (reversedOf f x y (lent m
 -- a pool that starts at four, in edition 2
 abbrev pub four : List ℕ
 four = pool 2 1 1 (4 ∷ []) (W 0 ++ S 0 ++ P 1 ++ P 1 ++ P 1 ++ P 1 ++ R 1 ++ P 1 ++ R 1)
+
+-- a semaphore that starts at 9 and a flag that opens after one post: task 2's, or task 0's after its write
+abbrev pub opened : List ℕ
+opened = kernel 3 1 1 1 (9 ∷ []) (1 ∷ []) sooner
 
 -- task 0 forks task 1, which writes, and joins it; task 2 writes in between
 abbrev pub lived : List ℕ
@@ -61,6 +66,9 @@ pub record Turned : Type 0 where
   pub g-read : Writes G 3 2 40 (file 2 0 1 (W 0 ++ Fork 0 1 ++ R 0 ++ W 1 ++ Join 0 1 ++ W 0))
   pub four-write : Writes four 0 6 53 (pool 2 1 1 (4 ∷ []) (W 0 ++ S 0 ++ P 1 ++ P 1 ++ P 1 ++ P 1 ++ R 1 ++ P 1 ++ R 1))
   pub four-read : Writes four 6 0 53 (pool 2 1 1 (4 ∷ []) (P 1 ++ P 1 ++ P 1 ++ P 1 ++ R 1 ++ W 0 ++ S 0 ++ P 1 ++ R 1))
+  -- a flag wait comes forward with the first posts, as many as the post count
+  pub flag-write : Writes opened 1 4 38 (kernel 3 1 1 1 (9 ∷ []) (1 ∷ []) (W 0 ++ Post 2 ++ Post 0 ++ Await 1 ++ R 1))
+  pub flag-read : Writes opened 4 1 38 (kernel 3 1 1 1 (9 ∷ []) (1 ∷ []) (Post 2 ++ Await 1 ++ R 1 ++ W 0 ++ Post 0))
   -- an event comes forward with its fork, and with the join before it
   pub with-fork : Writes lived 2 1 36 (file 3 0 1 (Fork 0 1 ++ W 1 ++ W 2 ++ Join 0 1 ++ R 0))
   pub with-join : Writes lived 4 1 36 (file 3 0 1 (Fork 0 1 ++ W 1 ++ Join 0 1 ++ R 0 ++ W 2))
@@ -75,6 +83,7 @@ pub record Turned : Type 0 where
   pub unsure-turned : Unsure A 3 0
   pub is-open : Unsure B 0 4
   pub open-turned : Unsure B 4 0
+  pub flag-open : Unsure (after 1 either) 0 4
   pub one-task : Unsure C 1 2
   pub one-task-turned : Unsure C 2 1
   -- 11, of either number and of both; 9; and 12, with room for all but the last byte, and for it
@@ -86,6 +95,8 @@ pub record Turned : Type 0 where
   pub out-fits : reversedOf C 1 4 (lent 30) (lent 36) ≡ Written.Length 36
   pub out-short-starts : Refused four 0 6 36 52 12 0
   pub out-fits-starts : reversedOf four 0 6 (lent 36) (lent 53) ≡ Written.Length 53
+  pub out-short-posts : Refused opened 1 4 30 37 12 0
+  pub out-fits-posts : reversedOf opened 1 4 (lent 30) (lent 38) ≡ Written.Length 38
   -- where two apply: the file, 11, 9, 15, 12
   pub file-before-event : Refused I 0 0 0 0 7 0
   pub event-before-work : Refused A 0 0 15 0 11 0
@@ -96,6 +107,7 @@ pub record Turned : Type 0 where
   pub work-unsure : workAfterReversing A 0 3 (lent 17) ≡ A-start ++ A-raised ++ lent 1
   pub work-left-analysed : workAfterReversing G 3 2 (lent 25) ≡ workAfterAnalysing G 0 (lent 25)
   pub work-starts-analysed : workAfterReversing four 6 0 (lent 37) ≡ workAfterAnalysing four 0 (lent 37)
+  pub work-posts-analysed : workAfterReversing opened 4 1 (lent 30) ≡ workAfterAnalysing opened 0 (lent 30)
   pub work-unsure-analysed : workAfterReversing B 4 0 (lent 30) ≡ workAfterAnalysing B 0 (lent 30)
   -- another refusal leaves it
   pub work-event : workAfterReversing A 3 3 (lent 17) ≡ lent 17

@@ -15,20 +15,20 @@ use Rattle.passes.proofs.candidates.Statement.{statement}
 use Rattle.passes.proofs.candidates.Tie as tie
 
 abbrev Inv-loop : tie.InvT-loop
-Inv-loop records counts positions v e s out₀ n c₀ a₀ out c a =
+Inv-loop records counts positions v e kind x out₀ n c₀ a₀ out c a =
     (a ≤ n)
     × (c ≤ a)
     × (length out ≡ length out₀)
-    × (c ≡ length (picked (candidate (eventsOf records) (vectorsIn records counts v) e s) a))
-    × (out ≡ picked (candidate (eventsOf records) (vectorsIn records counts v) e s) a ++ drop c out₀)
+    × (c ≡ length (picked (candidate (eventsOf records) (vectorsIn records counts v) e kind x) a))
+    × (out ≡ picked (candidate (eventsOf records) (vectorsIn records counts v) e kind x) a ++ drop c out₀)
 
 abbrev μ-loop : tie.MeasureT-loop
-μ-loop records counts positions v e s out₀ n c₀ a₀ out c a = n - a
+μ-loop records counts positions v e kind x out₀ n c₀ a₀ out c a = n - a
 
 loop-holds : tie.Need-loop-holds Inv-loop μ-loop
 loop-holds c =
     let r = c .before .before .before .before .args in
-    let p = candidate (eventsOf (r .records .now)) (vectorsIn (r .records .now) (r .counts) (r .v .now)) (r .e) (r .s) in
+    let p = candidate (eventsOf (r .records .now)) (vectorsIn (r .records .now) (r .counts) (r .v .now)) (r .e) (r .kind) (r .x) in
     rw (picked-start p) (omega arith, omega arith, refl, refl, refl)
 
 loop-again : tie.Need-loop-again Inv-loop μ-loop
@@ -36,7 +36,7 @@ loop-again c =
     let r = c .before .before .before .before .before .before .before .before .args in
     let k = c .before .before .before .loop in
     let f = c .before .is-candidate in
-    let p = candidate (eventsOf (r .records .now)) (vectorsIn (r .records .now) (r .counts) (r .v .now)) (r .e) (r .s) in
+    let p = candidate (eventsOf (r .records .now)) (vectorsIn (r .records .now) (r .counts) (r .v .now)) (r .e) (r .kind) (r .x) in
     let room : k .c < length (r .out .now) = omega arith in
     ⊎-elim
     (λ w.
@@ -59,7 +59,7 @@ returns c =
     let k = c .before .loop in
     let l = eventsOf (r .records .now) in
     let q : k .a ≡ length l = omega arith in
-    let z = candidates-all l (vectorsIn (r .records .now) (r .counts) (r .v .now)) (r .e) (r .s) (k .a) q in
+    let z = candidates-all l (vectorsIn (r .records .now) (r .counts) (r .v .now)) (r .e) (r .kind) (r .x) (k .a) q in
     (k .inv .3 ∙ ap length z, k .inv .4 ∙ ap (λ (l : List ℕ). l ++ drop (k .c) (r .out .now)) z)
 
 pub candidates-spec : {M : Type 1} → statement M

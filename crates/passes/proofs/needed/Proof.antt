@@ -52,7 +52,7 @@ lowered c =
     let l = eventsOf (a .records .now) in
     let X = vectorsIn (a .records .now) (a .counts) (a .v .now) in
     let q : k .w ≡ length l = omega arith in
-    let first : c .start-of .result ≡ startOf (levelsBy (a .levels .now)) (a .s) = c .start-of .ensures in
+    let first : c .start-of .result ≡ startOf (levelsBy (a .counts) (a .levels .now)) (a .s) = c .start-of .ensures in
     ap₂ _-_ (k .inv .2 ∙ ap (λ (n : ℕ). suc (tally (waitBefore l X (a .e) (a .s)) n)) q) first
     ∙ sym (k-tally (recordingBy (a .records .now) (a .counts) (a .levels .now)) X (a .e) (a .s))
 

@@ -20,16 +20,16 @@ use Rattle.passes.proofs.raise_wait.Tie as tie
 abbrev listed : tie.After-candidates → List ℕ
 listed c =
     let a = c .before .before .before .before .before .before .args in
-    candidatesOn (eventsOf (a .records .now)) (vectorsIn (a .records .now) (a .counts) (a .v .now)) (a .e) (a .s)
+    candidatesOn (eventsOf (a .records .now)) (vectorsIn (a .records .now) (a .counts) (a .v .now)) (a .e) (a .kind) (a .x)
 
-the-found : (c : tie.After-candidates) → take (c .candidates .result) (c .candidates .last .1 .1 .1 .1 .1 .1 .0) ≡ listed c
+the-found : (c : tie.After-candidates) → take (c .candidates .result) (c .candidates .last .1 .1 .1 .1 .1 .1 .1 .0) ≡ listed c
 the-found c = ap (take (c .candidates .result)) (c .candidates .ensures .1) ∙ take-at (listed c) _ _ (sym (c .candidates .ensures .0))
 
 few : (c : tie.After-candidates) → c .candidates .result ≤ 1024
 few c =
     let s = c .before .before .before .before .before .before in
     let a = s .args in
-    omega (arith, c .candidates .ensures .0, candidates-few (eventsOf (a .records .now)) (vectorsIn (a .records .now) (a .counts) (a .v .now)) (a .e) (a .s), s .pre .0 .records .few)
+    omega (arith, c .candidates .ensures .0, candidates-few (eventsOf (a .records .now)) (vectorsIn (a .records .now) (a .counts) (a .v .now)) (a .e) (a .kind) (a .x), s .pre .0 .records .few)
 
 raise-to-kth-requires : tie.Need-raise-to-kth-requires
 raise-to-kth-requires c κs =
@@ -41,7 +41,7 @@ raise-to-kth-requires c κs =
     let m = a .counts .tasks in
     rw (the-found d) (
       (omega (arith, next-row (a .e) (length l) m (s .pre .2), s .pre .1), omega (arith, few d, d .candidates .ensures .0)),
-      λ i h. omega (arith, next-row _ (length l) m (candidates-below l X (a .e) (a .s) i h), s .pre .1),
+      λ i h. omega (arith, next-row _ (length l) m (candidates-below l X (a .e) (a .kind) (a .x) i h), s .pre .1),
     )
 
 returns : tie.Need-returns
@@ -52,7 +52,7 @@ returns c =
     let l = eventsOf (a .records .now) in
     let f = c .before .before .raise-to-kth in (
       ap (chunks (length l) (a .counts .tasks)) (f .ensures .0)
-          ∙ chunks-waited (a .counts) l (a .v .now) (a .e) (a .s) (a .k) _ (s .pre .1) (s .pre .2) (the-found d),
+          ∙ chunks-waited (a .counts) l (a .v .now) (a .e) (a .kind) (a .x) (a .k) _ (s .pre .1) (s .pre .2) (the-found d),
       f .ensures .1,
     )
 

@@ -1,43 +1,53 @@
--- step_two meets its contract: an event that is no wait needs none, and is raised to nothing.
+-- step_two meets its contract: a wait of either kind is raised by what serves it; any other event needs none, and is raised to nothing.
 -- Assumes nothing.
-use mathlib.Core.Path.{sym, ap, ap₂, _∙_}
-use Prim.Native.Nat.{ℕ}
+use mathlib.Core.Path.{ap, _∙_}
 use native.Mathlib.Omega.{arith}
-use Rattle.model.specs.declared.Event.{Event}
-use Rattle.model.specs.Recording.{size}
+use borrow.Author.Needs.{needs}
+use Rattle.model.specs.Recording.{Recording, size}
 use Rattle.model.specs.File.{recordingBy}
-use Rattle.model.specs.Passes.{kOf}
+use Rattle.model.specs.Vectors.{Vectors}
+use Rattle.model.specs.Passes.{serving}
 use Rattle.vectors.proofs.Chunks.{chunks-shaped}
 use Rattle.vectors.proofs.Rising.{rose-none}
 use Rattle.passes.specs.Lent.{vectorsIn}
-use Rattle.passes.specs.Steps.{waited}
-use Rattle.passes.proofs.Waits.{wait-raised, other-kept}
+use Rattle.passes.proofs.Waits.{wait-raised, needed-wait, needed-flag, other-kept}
 use Rattle.passes.proofs.step_two.Statement.{statement}
 use Rattle.passes.proofs.step_two.Tie as tie
 
+-- the event e is at hand
+module _ (t : tie.After-event-at) where
+  abbrev s : tie.Start
+  s = t .before .before .before .before .before
+
+  abbrev E : Recording
+  E = recordingBy (s .args .records .now) (s .args .counts) (s .args .levels .now)
+
+  abbrev X : Vectors
+  X = vectorsIn (s .args .records .now) (s .args .counts) (s .args .v .now)
+
 returns : tie.Need-returns
 returns c =
-    let s = c .before .before .before .before .before .before .before in
-    let a = s .args in
-    let E = recordingBy (a .records .now) (a .counts) (a .levels .now) in
-    let d = ap (λ (v : Event). v .kind) (c .before .before .event-at .ensures) in (
-      other-kept E (vectorsIn (a .records .now) (a .counts) (a .v .now)) (a .e) (chunks-shaped (size E) (a .counts .tasks) (a .v .now) (s .pre .1)) (s .pre .2)
-          (λ q. c .if1 .taken (d ∙ q)),
-      rose-none (a .v .now),
-    )
+    let k = c .before .before .before .before in
+    let w = k .before .before in
+    let t = w .before .before in
+    let f = c .before .before .raise-wait in
+    (wait-raised (E t) (X t) _ _ (t .event-at .ensures) _ _ _ (f .ensures .0) (ap serving (w .if1 .taken)) (k .needed .ensures ∙ needed-wait (E t) (X t) _ _ (t .event-at .ensures) (w .if1 .taken)), f .ensures .1)
 
 returns-2 : tie.Need-returns-2
 returns-2 c =
-    let a = c .before .before .before .before .before .before .before .before .before .before .before .before .before .args in
-    let E = recordingBy (a .records .now) (a .counts) (a .levels .now) in
-    let X = vectorsIn (a .records .now) (a .counts) (a .v .now) in
-    let w = c .before .before .before .before .before .before .before .before .event-at .ensures in
-    let k = c .before .before .before .before .needed .ensures in
-    let f = c .before .before .raise-wait in (
-      f .ensures .0
-          ∙ ap₂ (λ (v : Event) (k : ℕ). waited (a .counts) (E .events) X (a .e) (v .object) k) w (k ∙ ap (λ (v : Event). kOf E X (a .e) (v .object)) w)
-          ∙ wait-raised E X (a .e) (sym (ap (λ (v : Event). v .kind) w) ∙ c .before .before .before .before .before .before .if1 .left),
-      f .ensures .1,
+    let k = c .before .before .before .before in
+    let w = k .before in
+    let t = w .before .before .before .before in
+    let f = c .before .before .raise-wait2 in
+    (wait-raised (E t) (X t) _ _ (t .event-at .ensures) _ _ _ (f .ensures .0) (ap serving (w .if2 .taken)) (k .post-of .ensures ∙ needed-flag (E t) (X t) _ _ (t .event-at .ensures) (w .if2 .taken)), f .ensures .1)
+
+returns-3 : tie.Need-returns-3
+returns-3 c =
+    let t = c .before .before .before .before in
+    let a = s t .args in (
+      other-kept (E t) (X t) (a .e) _ (t .event-at .ensures) (chunks-shaped (size (E t)) (a .counts .tasks) (a .v .now) (s t .pre .1)) (s t .pre .2)
+          (c .before .before .if1 .left) (c .if2 .left),
+      rose-none (a .v .now),
     )
 
 pub step-two-spec : {M : Type 1} → statement M
@@ -45,8 +55,12 @@ step-two-spec =
     tie.close
     (tie.spec
     (λ c κs. omega (arith, c .before .before .before .before .pre .0 .records .whole))
-    returns
     (λ c κs. c .before .before .before .before .before .before .before .before .pre)
     (λ c κs. c .before .before .before .before .before .before .before .before .before .before .pre)
     (λ c. omega arith)
-    returns-2)
+    returns
+    (λ c κs. search needs)
+    (λ c κs. c .before .before .before .before .before .before .before .before .before .before .before .pre)
+    (λ c. omega arith)
+    returns-2
+    returns-3)

@@ -10,13 +10,13 @@ use lib.Seq.{set-getD}
 use Rattle.model.specs.declared.Event.{Event}
 use Rattle.model.specs.declared.Found.{Found}
 use Rattle.model.specs.Numbers.{tally, nth}
-use Rattle.model.specs.Recording.{startOf, Recording, isWait, event, wait}
-use Rattle.model.specs.File.{eventsOf, recordingBy}
+use Rattle.model.specs.Recording.{startOf, Recording, isWait, event, signal, wait}
+use Rattle.model.specs.File.{eventsOf, levelsBy, recordingBy}
 use Rattle.model.specs.Passes.{signalsOn}
 use Rattle.model.specs.Recorded.{matched}
 use Rattle.model.proofs.Tests.{both, eq-eqb, ne-eqb}
 use Rattle.events.specs.Chains.{head}
-use Rattle.passes.specs.Matching.{waitAt, AtHand, Matching}
+use Rattle.passes.specs.Matching.{signalAt, waitAt, AtHand, Matching}
 use Rattle.passes.proofs.Searches.{matched-early, matched-later, matched-other}
 use Rattle.passes.proofs.Matching.{next-other, next-early, next-later, taken-next, none-next, hand-at, hand-none}
 use Rattle.passes.proofs.take_signal.Statement.{statement}
@@ -76,7 +76,11 @@ module _ (c : tie.Else1) where
   counted : unmatched ≡ min (first object) (waits object)
   counted = s .pre .2 .counted object small
 
-  hand : AtHand (s .args .records .now) object (waits object - first object) (getD (s .args .chain .now) (head object) 0)
+  -- what is at hand on it with w signals before it
+  abbrev Hand : ℕ → ℕ → Type 0
+  Hand w a = AtHand (signalAt (s .args .records .now) object) (length (eventsOf (s .args .records .now))) w a
+
+  hand : Hand (waits object - first object) (getD (s .args .chain .now) (head object) 0)
   hand = s .pre .2 .heads object small
 
   early-match : unmatched < first object → Found.Nothing ≡ matched (E .levels) (E .events) (s .args .e)
@@ -105,9 +109,9 @@ module _ (c : tie.Else2) where
   later = omega (arith, c .before .start-of .ensures)
 
   -- the state after it, by what is at hand then
-  hand-next : (a : ℕ) → AtHand (s d .args .records .now) (object d) (waits d (object d) - first d (object d) + 1) a
-      → Matching (s d .args .records .now) (s d .args .levels .now) (s d .args .e + 1) (s d .args .unmatched .now) (set (s d .args .chain .now) (head (object d)) a)
-  hand-next a n = next-later _ _ _ _ _ (s d .pre .2) (object d) (small d) (waiting d) later a n (s d .pre .0 .few)
+  hand-then : (a : ℕ) → Hand d (waits d (object d) - first d (object d) + 1) a
+      → Matching (s d .args .records .now) (levelsBy (s d .args .counts) (s d .args .levels .now)) (s d .args .e + 1) (s d .args .unmatched .now) (set (s d .args .chain .now) (head (object d)) a)
+  hand-then a n = next-later _ _ _ _ _ (s d .pre .2) (object d) (small d) (waiting d) later a n (s d .pre .0 .few)
 
 returns-3 : tie.Need-returns-3
 returns-3 c =
@@ -115,8 +119,8 @@ returns-3 c =
     let d = d g in
     let r = s d .args .records .now in
     let n : length (eventsOf r) ≤ getD (s d .args .chain .now) (head (object d)) 0 = omega (arith, s d .pre .0 .whole) in (
-      (later-match d (later g) _ (hand-none r (object d) _ _ (hand d) n), tt),
-      rw (set-getD (s d .args .chain .now) (head (object d)) 0) at (hand-next g _ (none-next r (object d) _ _ n (hand d))),
+      (later-match d (later g) _ (hand-none r signal (object d) _ _ (hand d) n), tt),
+      rw (set-getD (s d .args .chain .now) (head (object d)) 0) at (hand-then g _ (none-next (signalAt r (object d)) _ _ _ n (hand d))),
     )
 
 -- a signal is at hand
@@ -129,8 +133,8 @@ returns-4 c =
     let d = d g in
     let r = s d .args .records .now in
     let l = at-hand (c .before) in (
-      (later-match d (later g) _ (hand-at r (object d) _ _ (hand d) l), l),
-      hand-next g _ (taken-next _ _ _ _ _ (s d .pre .2) (object d) _ _ (small d) l (hand d)),
+      (later-match d (later g) _ (hand-at r signal (object d) _ _ (hand d) l), l),
+      hand-then g _ (taken-next _ _ _ _ _ (s d .pre .2) (object d) _ _ (small d) l (hand d)),
     )
 
 pub take-signal-spec : {M : Type 1} → statement M

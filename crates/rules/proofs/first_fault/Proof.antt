@@ -41,7 +41,7 @@ module _ (c : tie.After-record-check Inv-loop μ-loop) where
   the-length : length (take (k .loop .i) (eventsOf (s .args .records .now))) ≡ k .loop .i
   the-length = before-length (s .args .records .now) (k .loop .i) (omega arith)
 
-  checked : c .record-check .result ≡ recordCheck (s .args .counts) (levelsBy (s .args .levels .now)) (take (k .loop .i) (eventsOf (s .args .records .now))) (turn .event-at .result)
+  checked : c .record-check .result ≡ recordCheck (s .args .counts) (levelsBy (s .args .counts) (s .args .levels .now)) (take (k .loop .i) (eventsOf (s .args .records .now))) (turn .event-at .result)
   checked = c .record-check .ensures _ (k .loop .inv .2) the-length
 
   the-small : c .record-check .result ≡ Check.Passed → Small (turn .event-at .result)

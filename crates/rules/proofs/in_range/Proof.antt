@@ -1,35 +1,12 @@
--- `rules::in_range` meets its contract. Each return rewrites the definition by the tests and the calls that led to it. Assumes nothing.
-use borrow.Author.Tests.{le-leb, lt-leb}
+-- `rules::in_range` meets its contract: its tests are the definition's, on the semaphores and flags that were read off the field. Assumes nothing.
+use borrow.Author.Needs.{needs}
 use Rattle.model.specs.Reading.{inRange}
 use Rattle.rules.proofs.in_range.Statement.{statement}
 use Rattle.rules.proofs.in_range.Tie as tie
 
 returns : tie.Need-returns
 unfolding inRange
-returns c = simp (lt-leb _ _ (c .if1 .taken))
-
-returns-2 : tie.Need-returns-2
-unfolding inRange
-returns-2 c = simp (le-leb _ _ (c .before .before .if1 .left), lt-leb _ _ (c .if2 .taken))
-
-returns-3 : tie.Need-returns-3
-unfolding inRange
-returns-3 c = simp (le-leb _ _ (c .before .before .before .before .if1 .left), le-leb _ _ (c .before .before .if2 .left), lt-leb _ _ (c .if3 .taken))
-
-returns-4 : tie.Need-returns-4
-unfolding inRange
-returns-4 c = simp (le-leb _ _ (c .before .before .before .before .before .before .if1 .left), le-leb _ _ (c .before .before .before .before .if2 .left), le-leb _ _ (c .before .before .if3 .left), lt-leb _ _ (c .if4 .taken))
-
-returns-5 : tie.Need-returns-5
-unfolding inRange
-returns-5 c = rw (le-leb _ _ (c .before .before .before .before .before .before .if1 .left), le-leb _ _ (c .before .before .before .before .if2 .left), le-leb _ _ (c .before .before .if3 .left), le-leb _ _ (c .if4 .left))
+returns c = rw (← c .before .before .before .before .semaphores .ensures, ← c .before .before .before .flags .ensures)
 
 pub in-range-spec : {M : Type 1} → statement M
-in-range-spec =
-    tie.close
-    (tie.spec
-    returns
-    returns-2
-    returns-3
-    returns-4
-    returns-5)
+in-range-spec = tie.close (tie.spec (λ c κs. search needs) (λ c κs. search needs) returns)

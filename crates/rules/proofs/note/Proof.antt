@@ -2,27 +2,27 @@
 use mathlib.Core.Path.{refl}
 use native.Mathlib.Omega.{arith}
 use borrow.Author.Needs.{needs}
-use borrow.Author.Tests.{le-leb, lt-leb}
 use Rattle.rules.specs.Running.{notedOn, notedOwn}
+use Rattle.rules.proofs.Running.{low}
 use Rattle.rules.proofs.note.Statement.{statement}
 use Rattle.rules.proofs.note.Tie as tie
 
 element-copy-out-on : tie.Need-element-copy-out-on
-element-copy-out-on c = let s = c .before .before .before .before .before .before in omega (arith, s .pre .0 .object (omega arith))
+element-copy-out-on c = let s = c .before .before .before .before .before .before .before in let k = c .before .before .if1 .taken in omega (arith, low (s .args .v .kind) k, s .pre .0 .object k)
 
 add-on : tie.Need-add-on
-add-on c = let s = c .before .before .before .before .before .before .before in omega (arith, s .pre .1 .kind (omega arith))
+add-on c = let s = c .before .before .before .before .before .before .before .before in omega (arith, s .pre .1 .kind (c .before .before .before .if1 .taken))
 
 element-write-on : tie.Need-element-write-on
-element-write-on c = let s = c .before .before .before .before .before .before .before in omega (arith, s .pre .0 .object (omega arith))
+element-write-on c = let s = c .before .before .before .before .before .before .before .before in let k = c .before .before .before .if1 .taken in omega (arith, low (s .args .v .kind) k, s .pre .0 .object k)
 
 returns : tie.Need-returns
 unfolding notedOn notedOwn
-returns c = (rw (le-leb _ _ (c .before .before .before .if1 .taken)), refl)
+returns c = (rw (c .before .before .before .if1 .taken), refl)
 
 returns-2 : tie.Need-returns-2
 unfolding notedOn notedOwn
-returns-2 c = (rw (lt-leb _ _ (c .if1 .left)), refl)
+returns-2 c = (rw (c .if1 .left), refl)
 
 pub note-spec : {M : Type 1} → statement M
 note-spec =

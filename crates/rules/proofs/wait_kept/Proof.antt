@@ -1,16 +1,15 @@
 -- `rules::wait_kept` meets its contract. Each return rewrites the definition by the tests and the calls that led to it. Assumes nothing.
-use mathlib.Core.Path.{_≡_}
+use mathlib.Core.Path.{_≡_, refl, ap}
 use mathlib.Core.Bool.{Bool}
 use mathlib.Core.List.{List}
 use Prim.Native.Nat.{ℕ, _+_}
-use native.Mathlib.Omega.{arith}
 use borrow.Author.Needs.{needs}
 use borrow.Author.Tests.{eq-eqb, ne-eqb}
 use lib.Dec.{ltb}
 use Rattle.model.specs.declared.Event.{Event}
 use Rattle.model.specs.Recording.{waitKept}
 use Rattle.model.specs.File.{levelsBy}
-use Rattle.rules.specs.Running.{Running}
+use Rattle.rules.specs.Running.{counted, Running}
 use Rattle.rules.proofs.Laws.{by-signals, by-start}
 use Rattle.rules.proofs.wait_kept.Statement.{statement}
 use Rattle.rules.proofs.wait_kept.Tie as tie
@@ -20,10 +19,10 @@ unfolding waitKept
 returns c before own run = simp (ne-eqb _ _ (c .if1 .taken))
 
 count-on-requires : tie.Need-count-on-requires
-count-on-requires c κs = let k = c .before .if1 .left in (omega arith, c .before .before .before .before .pre .object (omega arith))
+count-on-requires c κs = let k = c .before .if1 .left in (refl, c .before .before .before .before .pre .object (ap counted k))
 
 count-on-requires-2 : tie.Need-count-on-requires-2
-count-on-requires-2 c κs = let k = c .before .before .if1 .left in (omega arith, c .before .before .before .before .before .pre .object (omega arith))
+count-on-requires-2 c κs = let k = c .before .before .if1 .left in (refl, c .before .before .before .before .before .pre .object (ap counted k))
 
 -- at a wait the rule is the test on the three numbers that were read
 module _ (c : tie.After-count-on2) where
@@ -32,7 +31,7 @@ module _ (c : tie.After-count-on2) where
 
   at-wait : (before : List Event) (own : List ℕ) → Running before (s .args .on .now) own → (b : Bool)
       → b ≡ ltb (c .count-on2 .result) (c .before .before .start-of .result + c .before .count-on .result)
-      → b ≡ waitKept (levelsBy (s .args .levels .now)) before (s .args .v)
+      → b ≡ waitKept (levelsBy (s .args .counts) (s .args .levels .now)) before (s .args .v)
   unfolding waitKept
   at-wait before own run b p =
       simp (

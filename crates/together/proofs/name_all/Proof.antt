@@ -1,5 +1,5 @@
 -- name_all meets its contract: the part of the work numbers that is lent on is the second recording's recorded vectors. Assumes nothing.
-use mathlib.Core.Path.{_≡_, _∙_}
+use mathlib.Core.Path.{ap, _∙_}
 use mathlib.Core.List.{[], _++_}
 use Prim.Native.Nat.{_*_}
 use native.Mathlib.Omega.{arith}
@@ -8,7 +8,6 @@ use lib.ListN.{drop}
 use Rattle.model.specs.Numbers.{flatMap}
 use Rattle.model.specs.File.{eventsOf, recordingBy}
 use Rattle.model.specs.Vectors.{Vectors}
-use Rattle.work.proofs.Parts.{second-part, as-vectors}
 use Rattle.together.specs.Naming.{entriesAt, named}
 use Rattle.together.proofs.name_all.Statement.{statement}
 use Rattle.together.proofs.name_all.Tie as tie
@@ -21,15 +20,15 @@ counterparts-requires c κs =
 
 name-entries-requires : tie.Need-name-entries-requires
 name-entries-requires c κs =
-    let n = c .before .before .before in
-    let s = n .before .before .before .before .before .before in
+    let r = c .before .before in
+    let s = r .before .before .before .before .before .before in
     let p = s .pre .0 in
-    let k = n .before .counterparts .ensures in (
+    let k = r .before .counterparts .ensures in (
       record {
         whole = p .first .whole;
         few = p .first .few;
         placed = p .placed;
-        second = record { placed = record { records = p .second .records; kept = p .there }; recorded = second-part _ _ (omega (arith, p .roomy)) ∙ n .numbers .ensures .0 };
+        second = record { placed = record { records = p .second .records; kept = p .there }; recorded = r .recorded-part .ensures .1 };
         held = λ e l. record { room = omega (arith, p .first .few); inside = k .inside e l };
       },
       s .pre .1,
@@ -37,16 +36,15 @@ name-entries-requires c κs =
 
 returns : tie.Need-returns
 returns c =
-    let n = c .before .before .before .before .before .before in
-    let s = n .before .before .before .before .before .before in
-    let a = s .args in
+    let r = c .before .before .before .before .before in
+    let a = r .before .before .before .before .before .before .args in
+    let k = r .before .counterparts in
     record {
-      kept = n .before .counterparts .result;
-      counterparts = n .before .counterparts .ensures;
+      kept = k .result;
+      counterparts = k .ensures;
       entries =
-          as-vectors (a .second .now) (a .counts) (a .work .now) _ (n .numbers .ensures .0)
-          (λ (X R : Vectors). c .before .before .name-entries .last .1 .1 .1 .1 .1 .1 .1 .1 .0 ≡ flatMap (named (eventsOf (a .first .now)) (recordingBy (a .second .now) (a .counts) []) R (n .before .counterparts .result)) (entriesAt (a .list .now) (a .pairs)) ++ drop (5 * a .pairs) (a .list .now))
-          (c .before .before .name-entries .ensures);
+          c .before .before .name-entries .ensures
+          ∙ ap (λ (R : Vectors). flatMap (named (eventsOf (a .first .now)) (recordingBy (a .second .now) (a .counts) []) R (k .result)) (entriesAt (a .list .now) (a .pairs)) ++ drop (5 * a .pairs) (a .list .now)) (r .recorded-part .ensures .0);
     }
 
 pub name-all-spec : {M : Type 1} → statement M
@@ -54,12 +52,7 @@ name-all-spec =
     tie.close
     (tie.spec
     counterparts-requires
-    (λ c κs. search needs)
-    (λ c. search needs)
-    (λ c. search needs)
-    (λ c. search needs)
-    (λ c. search needs)
-    (λ c. search needs)
+    (λ c κs. let p = c .before .before .before .before .before .pre .0 in (p .second, p .roomy))
     name-entries-requires
     (λ c. search needs)
     returns)

@@ -1,15 +1,18 @@
--- `recording::writing::write` meets its contract. The checks pass and the file is written, or one fails and nothing is. Assumes nothing.
+-- `recording::writing::write` meets its contract. What is lent passes its checks and is written from the joined level bytes, or it
+-- does not and nothing is. Assumes nothing.
 use native.Mathlib.Omega.{arith}
 use borrow.Author.Needs.{needs}
-use mathlib.Core.Path.{_≡_, sym, _∙_}
+use mathlib.Core.Path.{_≡_, sym, ap, _∙_}
+use Prim.Native.Nat.{_+_, _≤_}
+use lib.ListN.{length, take, length-append}
 use Rattle.model.specs.declared.Counts.{Counts}
 use Rattle.model.specs.declared.Check.{Check}
-use Rattle.model.specs.Writing.{writingCheck}
-use Rattle.recording.proofs.Outputs.{fits, written, filled, refused, kept}
+use Rattle.model.specs.Writing.{lentCheck}
+use Rattle.recording.proofs.Outputs.{ranged, few-levels, answered, left, refused, kept}
 use Rattle.recording.proofs.writing.write.Statement.{statement}
 use Rattle.recording.proofs.writing.write.Tie as tie
 
--- where the match says so, the checks pass
+-- where the match says so, what is lent passes its checks
 module _ (c : tie.After-enum-told) where
   abbrev s : tie.Start
   s = c .before .before .before .before .before .before .before
@@ -17,19 +20,44 @@ module _ (c : tie.After-enum-told) where
   abbrev counts : Counts
   counts = record { tasks = s .args .tasks; semaphores = s .args .semaphores; cells = s .args .cells; edition = s .args .edition }
 
-  passes : writingCheck (s .args .records .now) counts (s .args .starts .now) (s .args .out .now) ≡ Check.Passed
-  passes = sym (c .before .before .writing-check .ensures) ∙ c .enum-told .given .1
+  passes : lentCheck (s .args .records .now) counts (s .args .starts .now) (s .args .posts .now) ≡ Check.Passed
+  passes = sym (c .before .before .lent-check .ensures) ∙ c .enum-told .given .1
 
-put-file-requires : tie.Need-put-file-requires
-put-file-requires c κs = fits _ _ _ _ (passes (c .before))
+join-levels-requires : tie.Need-join-levels-requires
+join-levels-requires c κs = few-levels _ _ _ _ (passes c)
+
+add-n : tie.Need-add-n
+add-n c = omega (arith, few-levels _ _ _ _ (passes (c .before)))
+
+-- the joined level bytes are lent, and they are few
+module _ (c : tie.After-join-levels) where
+  abbrev lent : tie.After-enum-told
+  lent = c .before
+
+  few : length (s lent .args .starts .now) + length (s lent .args .posts .now) ≤ 128
+  few = few-levels _ _ _ _ (passes lent)
+
+  their-length : length (take (length (s lent .args .starts .now) + length (s lent .args .posts .now)) (c .join-levels .result))
+      ≡ length (s lent .args .starts .now) + length (s lent .args .posts .now)
+  their-length = ap length (c .join-levels .ensures) ∙ length-append (s lent .args .starts .now) (s lent .args .posts .now)
+
+write-checked-requires : tie.Need-write-checked-requires
+write-checked-requires c κs =
+    let j = c .before .before in
+    (ranged _ _ _ _ (passes (lent j)), omega (arith, few j, their-length j))
 
 returns : tie.Need-returns
-returns c = let p = passes (c .before .before .before .before) in (written _ _ _ _ p, filled _ _ _ _ p _ (c .before .before .put-file .ensures))
+returns c =
+    let put = c .before .before in
+    let j = put .before .before .before in
+    let p = passes (lent j) in
+    let e = j .join-levels .ensures in
+    (answered _ _ _ _ p _ _ e _ (put .write-checked .ensures .0), left _ _ _ _ p _ _ e _ (put .write-checked .ensures .1))
 
 returns-2 : tie.Need-returns-2
 returns-2 c =
-    let p = sym (c .before .before .before .writing-check .ensures) ∙ c .before .r .given .1 in
-    (refused _ _ _ _ _ p, kept _ _ _ _ _ p)
+    let p = sym (c .before .before .before .lent-check .ensures) ∙ c .before .r .given .1 in
+    (refused _ _ _ _ _ p _, kept _ _ _ _ _ p _)
 
 pub write-spec : {M : Type 1} → statement M
 write-spec =
@@ -37,11 +65,12 @@ write-spec =
     (tie.spec
     (λ c κs. search needs)
     (λ c. search needs)
-    put-file-requires
-    (λ c. search needs)
-    (λ c. omega (arith, fits _ _ _ _ (passes (c .before .before .before .before))))
+    join-levels-requires
+    add-n
+    (λ c. omega (arith, few c))
+    (λ c. sym (their-length (c .before)))
+    write-checked-requires
     (λ c. search needs)
     (λ c. search needs)
     returns
-    (λ c. search needs)
     returns-2)
