@@ -107,12 +107,13 @@ fn differing_records(one: &[u16], n: u16, other: &[u16], m: u16) -> Held
 }
 
 fn same_counts(r: Reading, s: Reading) -> bool {
-    r.tasks == s.tasks && r.semaphores == s.semaphores && r.cells == s.cells
+    r.tasks == s.tasks && r.semaphores == s.semaphores && r.flags == s.flags && r.cells == s.cells
 }
 
-fn same_starts(one: &[u16], other: &[u16]) -> bool {
-    for s in 0..64u16 {
-        if at(one, s as usize) != at(other, s as usize) {
+// The same start counts and post counts.
+fn same_levels(one: &[u16], other: &[u16]) -> bool {
+    for i in 0..128u16 {
+        if at(one, i as usize) != at(other, i as usize) {
             return false;
         }
     }
@@ -125,8 +126,8 @@ fn difference(
     s: Reading,
     one: &[u16],
     other: &[u16],
-    starts: &[u16],
-    other_starts: &[u16],
+    levels: &[u16],
+    other_levels: &[u16],
 ) -> Held
     requires { ⌜ Refused 8 1024 (r .refusal) (r .«record») × Refused 8 1024 (s .refusal) (s .«record») ⌝ }
     ensures { λ o. ⌜ Misfit o ⌝ }
@@ -137,7 +138,7 @@ fn difference(
     if s.refusal != 0 {
         return refused(s.refusal, s.record);
     }
-    if !same_counts(r, s) || !same_starts(starts, other_starts) {
+    if !same_counts(r, s) || !same_levels(levels, other_levels) {
         return differ(0, 0);
     }
     differing_records(one, r.events, other, s.events)
@@ -177,7 +178,7 @@ fn put_rows(rows: &[u16], n: u16, tasks: u16, first: u16, work: &mut [u16]) {
 pub(crate) fn fill(
     events: &[u16],
     links: &[u16],
-    starts: &[u16],
+    levels: &[u16],
     n: u16,
     tasks: u16,
     budget: u32,
@@ -185,7 +186,7 @@ pub(crate) fn fill(
     recorded: &mut [u16],
     work: &mut [u16],
 ) {
-    vectors::run(events, links, starts, n, budget, safe);
+    vectors::run(events, links, levels, n, budget, safe);
     vectors::replay(events, links, n, recorded);
     put_rows(safe, n, tasks, 0, work);
     put_rows(recorded, n, tasks, n, work);
@@ -281,16 +282,16 @@ fn list_named(
 
 // ---- the call
 
-// Work numbers and list of the events, links and start counts that two readings left.
+// Work numbers and list of the events, links and levels that two readings left.
 pub(crate) fn hold(
     r: Reading,
     s: Reading,
     one: &[u16],
     links: &[u16],
-    starts: &[u16],
+    levels: &[u16],
     other: &[u16],
     other_links: &[u16],
-    other_starts: &[u16],
+    other_levels: &[u16],
     work: &mut [u16],
     other_work: &mut [u16],
     list: &mut [u16],
@@ -300,7 +301,7 @@ pub(crate) fn hold(
     ensures { λ o. ⌜ (o .refusal ≡ 10 → now (list .exit) ≡ now (list .entry)) ⌝ }
     ensures { λ o. ⌜ (1 ≤ o .refusal → (o .refusal ≡ 10 → ⊥) → Unheld o (now (work .entry)) (now («other_work» .entry)) (now (list .entry)) (now (work .exit)) (now («other_work» .exit)) (now (list .exit))) ⌝ }
 {
-    let found = difference(r, s, one, other, starts, other_starts);
+    let found = difference(r, s, one, other, levels, other_levels);
     let fault = lacking(found, r, s, work.len(), other_work.len());
     if fault.refusal != 0 {
         return fault;
@@ -308,13 +309,13 @@ pub(crate) fn hold(
     let n = r.events;
     let tasks = r.tasks;
     let mut safe = [0u16; 16384];
-    let mut recorded = [0u16; 16384];
+    let mut recorded = [0u16; 17408];
     let mut other_safe = [0u16; 16384];
-    let mut other_recorded = [0u16; 16384];
+    let mut other_recorded = [0u16; 17408];
     fill(
         one,
         links,
-        starts,
+        levels,
         n,
         tasks,
         MOST_PASSES,
@@ -325,7 +326,7 @@ pub(crate) fn hold(
     fill(
         other,
         other_links,
-        other_starts,
+        other_levels,
         n,
         tasks,
         MOST_PASSES,

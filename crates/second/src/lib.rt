@@ -1,8 +1,8 @@
 // A second analyser, for tests: what documents 01 and 02 ask, by another method. One reading fills
 // arrays of state, a wait's signal is found by counting, the k-th least and the list are sorted by
 // counting, the look for a last event goes forward, and so does the look for an event of one recording
-// in another; what the recorded run puts before an event is marked going back from it. It is proved
-// safe, with the range of each number that it answers and what a refusal leaves; that the numbers are
+// in another; in the recorded run a flag is one more event, between its posts and its waits, and what
+// the run puts before an event is marked going back from it. It is proved safe, with the range of each number that it answers and what a refusal leaves; that the numbers are
 // right is not proved: the trial compares them with the library's.
 ghost use mathlib.Core.Path.{_≡_};
 ghost use Prim.Native.Nat.{_+_, _/_, _≤_, _<_};
@@ -10,13 +10,14 @@ ghost use lib.ListN.{length};
 ghost use Rattle.second.specs.Answers.{
   Refused,
   TrailerOf,
-  StartsFault,
+  LevelsFault,
   Read,
   Analysed,
   Unanalysed,
   QuestionFault,
   Replied,
   Unanswered,
+  RecordsFault,
   WritingFault,
   Written,
   Unsent,
@@ -37,7 +38,7 @@ mod writing;
 use memory::byte;
 
 // What a reading gives: a refusal's number and record; or 0, what the trailer says, and how many start
-// bytes stand before it.
+// bytes stand before it; there are as many post bytes as flags.
 pub struct Reading {
     pub refusal: u16,
     pub record: u16,
@@ -45,6 +46,7 @@ pub struct Reading {
     pub events: u16,
     pub tasks: u16,
     pub semaphores: u16,
+    pub flags: u16,
     pub cells: u16,
     pub edition: u16,
     pub starts: u16,
@@ -91,14 +93,17 @@ pub struct Held {
     pub pairs: u32,
 }
 
-// Reads a file, and leaves its events, four numbers each, their links, and the start counts.
-fn load(file: &[u8], events: &mut [u16], links: &mut [u16], starts: &mut [u16]) -> Reading
+// Reads a file, and leaves its events, four numbers each, their links, and its levels: 64 start counts,
+// then 64 post counts.
+fn load(file: &[u8], events: &mut [u16], links: &mut [u16], levels: &mut [u16]) -> Reading
     ensures { λ r. ⌜ Read (length (now (file .entry))) r ⌝ }
 {
     let h = scan::read_trailer(file);
     let end = h.start + 4 * (h.events as usize);
-    scan::take_starts(&file[end..], h.starts, starts);
-    let fault = scan::first_fault(file, h, starts, events, links);
+    let mid = end + h.starts as usize;
+    scan::take_levels(&file[end..], h.starts, 0, levels);
+    scan::take_levels(&file[mid..], h.flags, scan::POST_COUNTS, levels);
+    let fault = scan::first_fault(file, h, levels, events, links);
     Reading {
         refusal: fault.number,
         record: fault.record,
@@ -106,6 +111,7 @@ fn load(file: &[u8], events: &mut [u16], links: &mut [u16], starts: &mut [u16]) 
         events: h.events,
         tasks: h.tasks,
         semaphores: h.semaphores,
+        flags: h.flags,
         cells: h.cells,
         edition: h.edition,
         starts: h.starts,
@@ -117,9 +123,9 @@ pub fn read(file: &[u8]) -> Reading
     ensures { λ r. ⌜ Read (length (now (file .entry))) r ⌝ }
 {
     let mut events = [0u16; 4096];
-    let mut links = [0u16; 4096];
-    let mut starts = [0u16; 64];
-    load(file, &mut events, &mut links, &mut starts)
+    let mut links = [0u16; 5120];
+    let mut levels = [0u16; 128];
+    load(file, &mut events, &mut links, &mut levels)
 }
 
 // Whether room is less than 2 × N × T.
@@ -150,7 +156,7 @@ fn work_fault(r: Reading, room: usize) -> scan::Fault
 fn analyse_events(
     events: &[u16],
     links: &[u16],
-    starts: &[u16],
+    levels: &[u16],
     n: u16,
     budget: u32,
     slots: usize,
@@ -160,7 +166,7 @@ fn analyse_events(
 ) -> Findings
     ensures { λ o. ⌜ Analysed budget slots o × (1 ≤ o .refusal → o .refusal ≡ 10) ⌝ }
 {
-    let run = vectors::run(events, links, starts, n, budget, safe);
+    let run = vectors::run(events, links, levels, n, budget, safe);
     vectors::replay(events, links, n, recorded);
     let pairs = listing::list_pairs(events, n, safe, recorded, 3, list);
     Findings {
@@ -173,8 +179,8 @@ fn analyse_events(
 }
 
 // Analyses a file for a caller that lends room work numbers and slots numbers for the list. Safe and
-// recorded vectors are left in rows of sixteen numbers, and what fits of the list; refusals 1 to 9 leave
-// what was lent as it came.
+// recorded vectors are left in rows of sixteen numbers, the recorded ones with 64 rows for flags behind 1,024
+// rows, and what fits of the list; refusals other than 10 leave what was lent as it came.
 pub fn analyse(
     file: &[u8],
     budget: u32,
@@ -185,12 +191,12 @@ pub fn analyse(
     list: &mut [u16],
 ) -> Findings
     ensures { λ o. ⌜ Analysed budget slots o ⌝ }
-    ensures { λ o. ⌜ (1 ≤ o .refusal → o .refusal ≤ 9 → Unanalysed o (now (safe .entry)) (now (recorded .entry)) (now (list .entry)) (now (safe .exit)) (now (recorded .exit)) (now (list .exit))) ⌝ }
+    ensures { λ o. ⌜ (1 ≤ o .refusal → (o .refusal ≡ 10 → ⊥) → Unanalysed o (now (safe .entry)) (now (recorded .entry)) (now (list .entry)) (now (safe .exit)) (now (recorded .exit)) (now (list .exit))) ⌝ }
 {
     let mut events = [0u16; 4096];
-    let mut links = [0u16; 4096];
-    let mut starts = [0u16; 64];
-    let r = load(file, &mut events, &mut links, &mut starts);
+    let mut links = [0u16; 5120];
+    let mut levels = [0u16; 128];
+    let r = load(file, &mut events, &mut links, &mut levels);
     let fault = work_fault(r, room);
     if fault.number != 0 {
         return Findings {
@@ -205,7 +211,7 @@ pub fn analyse(
     analyse_events(
         &events,
         &links,
-        &starts,
+        &levels,
         n,
         budget,
         slots,
@@ -236,7 +242,7 @@ fn related(events: &[u16], safe: &[u16], recorded: &[u16], a: u16, b: u16) -> u1
 fn ask_events(
     events: &[u16],
     links: &[u16],
-    starts: &[u16],
+    levels: &[u16],
     n: u16,
     a: u16,
     b: u16,
@@ -246,7 +252,7 @@ fn ask_events(
 ) -> u16
     ensures { λ r. ⌜ (1 ≤ r) × (r ≤ 4) ⌝ }
 {
-    vectors::run(events, links, starts, n, budget, safe);
+    vectors::run(events, links, levels, n, budget, safe);
     vectors::replay(events, links, n, recorded);
     related(events, safe, recorded, a, b)
 }
@@ -294,9 +300,9 @@ pub fn ask(
     ensures { λ r. ⌜ (1 ≤ r .refusal → Unanswered r (now (safe .entry)) (now (recorded .entry)) (now (safe .exit)) (now (recorded .exit))) ⌝ }
 {
     let mut events = [0u16; 4096];
-    let mut links = [0u16; 4096];
-    let mut starts = [0u16; 64];
-    let r = load(file, &mut events, &mut links, &mut starts);
+    let mut links = [0u16; 5120];
+    let mut levels = [0u16; 128];
+    let r = load(file, &mut events, &mut links, &mut levels);
     let fault = question_fault(r, a, b, room);
     if fault.number != 0 {
         return Reply {
@@ -308,7 +314,7 @@ pub fn ask(
     let n = r.events;
     let x = a as u16;
     let y = b as u16;
-    let answer = ask_events(&events, &links, &starts, n, x, y, budget, safe, recorded);
+    let answer = ask_events(&events, &links, &levels, n, x, y, budget, safe, recorded);
     Reply {
         refusal: 0,
         record: 0,
@@ -316,9 +322,9 @@ pub fn ask(
     }
 }
 
-// Refusals 2 to 4 of writing, or the trailer of the file to write.
+// Refusals 2 to 4 of writing, but for the post counts, or the trailer of the file to write.
 fn counted(records: &[u8], tasks: u16, semaphores: u16, cells: u16, edition: u16) -> scan::Trailer
-    ensures { λ h. ⌜ TrailerOf 0 (length (now (records .entry)) / 4) (h .starts) h ⌝ }
+    ensures { λ h. ⌜ TrailerOf 0 (length (now (records .entry)) / 4) (h .starts + h .flags) h ⌝ }
 {
     if scan::unknown(edition) {
         return scan::refused(2);
@@ -327,43 +333,64 @@ fn counted(records: &[u8], tasks: u16, semaphores: u16, cells: u16, edition: u16
         return scan::refused(3);
     }
     let n = records.len() / 4;
-    let starts = scan::start_bytes(edition, semaphores);
-    scan::ranged(0, n, tasks, semaphores, cells, edition, starts)
+    let levels = scan::levels_of(edition, semaphores);
+    scan::ranged(0, n, tasks, levels, cells, edition)
 }
 
-// The refusal of a trailer, or else 13 where another number of start bytes is lent.
-fn starts_fault(h: scan::Trailer, lent: usize) -> u16
+// The refusal of a trailer, or else 4 where a post count is 0, or else 13 where another number of start
+// bytes or of post bytes is lent.
+fn levels_fault(h: scan::Trailer, starts: usize, posts: &[u8]) -> u16
     requires { ⌜ h .refusal ≤ 4 ⌝ }
-    ensures { λ r. ⌜ StartsFault h lent r ⌝ }
+    ensures { λ r. ⌜ LevelsFault h starts (length (now (posts .entry))) r ⌝ }
 {
     if h.refusal != 0 {
         return h.refusal;
     }
-    if lent != h.starts as usize {
+    if scan::has_zero(posts) {
+        return 4;
+    }
+    if starts != h.starts as usize {
+        return 13;
+    }
+    if posts.len() != h.flags as usize {
         return 13;
     }
     0
 }
 
-// The refusal of the counts, of the start bytes or of a record, or else 12 where room is less than the
-// file needs.
-fn writing_fault(records: &[u8], starts: &[u8], h: scan::Trailer, room: usize) -> scan::Fault
-    requires { ⌜ TrailerOf 0 (length (now records) / 4) (h .starts) h ⌝ }
-    ensures { λ f. ⌜ WritingFault (length (now (records .entry))) (length (now (starts .entry))) room (f .number) (f .«record») ⌝ }
+// The refusal of the counts, of the start bytes and post bytes or of a record.
+fn records_fault(records: &[u8], starts: &[u8], posts: &[u8], h: scan::Trailer) -> scan::Fault
+    requires { ⌜ TrailerOf 0 (length (now records) / 4) (h .starts + h .flags) h ⌝ }
+    ensures { λ f. ⌜ RecordsFault (length (now (records .entry))) (length (now (starts .entry))) (length (now (posts .entry))) (f .number) (f .«record») ⌝ }
 {
-    let number = starts_fault(h, starts.len());
+    let number = levels_fault(h, starts.len(), posts);
     if number != 0 {
         return scan::Fault { number, record: 0 };
     }
     let mut events = [0u16; 4096];
-    let mut links = [0u16; 4096];
-    let mut counts = [0u16; 64];
-    scan::take_starts(starts, h.starts, &mut counts);
-    let fault = scan::first_fault(records, h, &counts, &mut events, &mut links);
+    let mut links = [0u16; 5120];
+    let mut levels = [0u16; 128];
+    scan::take_levels(starts, h.starts, 0, &mut levels);
+    scan::take_levels(posts, h.flags, scan::POST_COUNTS, &mut levels);
+    scan::first_fault(records, h, &levels, &mut events, &mut links)
+}
+
+// The same, or else 12 where room is less than the file needs.
+fn writing_fault(
+    records: &[u8],
+    starts: &[u8],
+    posts: &[u8],
+    h: scan::Trailer,
+    room: usize,
+) -> scan::Fault
+    requires { ⌜ TrailerOf 0 (length (now records) / 4) (h .starts + h .flags) h ⌝ }
+    ensures { λ f. ⌜ WritingFault (length (now (records .entry))) (length (now (starts .entry))) (length (now (posts .entry))) room (f .number) (f .«record») ⌝ }
+{
+    let fault = records_fault(records, starts, posts, h);
     if fault.number != 0 {
         return fault;
     }
-    let number = if room < records.len() + starts.len() + 16 {
+    let number = if room < records.len() + starts.len() + posts.len() + 16 {
         12
     } else {
         0
@@ -371,7 +398,8 @@ fn writing_fault(records: &[u8], starts: &[u8], h: scan::Trailer, room: usize) -
     scan::Fault { number, record: 0 }
 }
 
-// Writes a file for a caller that lends room bytes, to out. A refusal leaves out as it came.
+// Writes a file for a caller that lends room bytes, to out; semaphores is the trailer's field. A refusal
+// leaves out as it came.
 pub fn write(
     records: &[u8],
     tasks: u16,
@@ -379,14 +407,15 @@ pub fn write(
     cells: u16,
     edition: u16,
     starts: &[u8],
+    posts: &[u8],
     room: usize,
     out: &mut [u8],
 ) -> Sent
-    ensures { λ s. ⌜ Written (length (now (records .entry))) (length (now (starts .entry))) room s ⌝ }
+    ensures { λ s. ⌜ Written (length (now (records .entry))) (length (now (starts .entry))) (length (now (posts .entry))) room s ⌝ }
     ensures { λ s. ⌜ (1 ≤ s .refusal → Unsent s (now (out .entry)) (now (out .exit))) ⌝ }
 {
     let h = counted(records, tasks, semaphores, cells, edition);
-    let fault = writing_fault(records, starts, h, room);
+    let fault = writing_fault(records, starts, posts, h, room);
     if fault.number != 0 {
         return Sent {
             refusal: fault.number,
@@ -394,11 +423,11 @@ pub fn write(
             length: 0,
         };
     }
-    writing::put_file(records, starts, h, out);
+    writing::put_file(records, starts, posts, h, out);
     Sent {
         refusal: 0,
         record: 0,
-        length: records.len() + starts.len() + 16,
+        length: records.len() + starts.len() + posts.len() + 16,
     }
 }
 
@@ -452,22 +481,22 @@ pub fn together(
     ensures { λ o. ⌜ (1 ≤ o .refusal → (o .refusal ≡ 10 → ⊥) → Unheld o (now («first_work» .entry)) (now («second_work» .entry)) (now (list .entry)) (now («first_work» .exit)) (now («second_work» .exit)) (now (list .exit))) ⌝ }
 {
     let mut one = [0u16; 4096];
-    let mut links = [0u16; 4096];
-    let mut starts = [0u16; 64];
+    let mut links = [0u16; 5120];
+    let mut levels = [0u16; 128];
     let mut other = [0u16; 4096];
-    let mut other_links = [0u16; 4096];
-    let mut other_starts = [0u16; 64];
-    let r = load(first, &mut one, &mut links, &mut starts);
-    let s = load(second, &mut other, &mut other_links, &mut other_starts);
+    let mut other_links = [0u16; 5120];
+    let mut other_levels = [0u16; 128];
+    let r = load(first, &mut one, &mut links, &mut levels);
+    let s = load(second, &mut other, &mut other_links, &mut other_levels);
     both::hold(
         r,
         s,
         &one,
         &links,
-        &starts,
+        &levels,
         &other,
         &other_links,
-        &other_starts,
+        &other_levels,
         first_work,
         second_work,
         list,
@@ -478,17 +507,17 @@ pub fn together(
 fn fill_unraised(
     events: &[u16],
     links: &[u16],
-    starts: &[u16],
+    levels: &[u16],
     n: u16,
     tasks: u16,
     work: &mut [u16],
 ) {
     let mut safe = [0u16; 16384];
-    let mut recorded = [0u16; 16384];
+    let mut recorded = [0u16; 17408];
     both::fill(
         events,
         links,
-        starts,
+        levels,
         n,
         tasks,
         0,
@@ -509,12 +538,12 @@ pub fn write_reversed(
 ) -> Sent
     ensures { λ s. ⌜ Reversed (length (now (file .entry))) (length (now (out .entry))) chosen other s ⌝ }
     ensures { λ s. ⌜ (1 ≤ s .refusal → Unsent s (now (out .entry)) (now (out .exit))) ⌝ }
-    ensures { λ s. ⌜ (1 ≤ s .refusal → s .refusal ≤ 11 → now (work .exit) ≡ now (work .entry)) ⌝ }
+    ensures { λ s. ⌜ (1 ≤ s .refusal → (11 < s .refusal → s .refusal ≡ 16) → now (work .exit) ≡ now (work .entry)) ⌝ }
 {
     let mut events = [0u16; 4096];
-    let mut links = [0u16; 4096];
-    let mut starts = [0u16; 64];
-    let r = load(file, &mut events, &mut links, &mut starts);
+    let mut links = [0u16; 5120];
+    let mut levels = [0u16; 128];
+    let r = load(file, &mut events, &mut links, &mut levels);
     let fault = question_fault(r, chosen, other, work.len());
     if fault.number != 0 {
         return Sent {
@@ -525,6 +554,6 @@ pub fn write_reversed(
     }
     let x = chosen as u16;
     let y = other as u16;
-    fill_unraised(&events, &links, &starts, r.events, r.tasks, work);
+    fill_unraised(&events, &links, &levels, r.events, r.tasks, work);
     reverse::write_forward(file, r, &links, x, y, out)
 }

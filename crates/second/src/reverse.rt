@@ -1,6 +1,6 @@
 // An order that shows a pair reversed. What the recorded run puts at or before an event is found without
 // vectors: the event is marked, and going back from it to record 0 so is each event that a marked one
-// follows directly.
+// follows directly, and the flag of a marked flag wait with the posts that open it.
 ghost use Prim.Native.Nat.{_≤_};
 ghost use mathlib.Core.Path.{_≡_};
 ghost use lib.ListN.{length};
@@ -19,6 +19,7 @@ use crate::scan::ENDED;
 use crate::scan::FORKED;
 use crate::scan::TAKEN;
 use crate::scan::Trailer;
+use crate::scan::opened;
 use crate::writing;
 
 // ---- marks
@@ -28,6 +29,17 @@ fn mark_by(links: &[u16], e: u16, link: u16, marks: &mut [u16]) {
     let other = get(links, e, link);
     if other != 0 {
         put(marks, (other - 1) as usize, 1);
+    }
+}
+
+// Marks event e where it opens a flag that is marked.
+fn mark_opening(links: &[u16], e: u16, marks: &mut [u16]) {
+    let flag = opened(links, e);
+    if flag == 0 {
+        return;
+    }
+    if at(marks, (flag - 1) as usize) == 1 {
+        put(marks, e as usize, 1);
     }
 }
 
@@ -47,13 +59,14 @@ fn mark_back(links: &[u16], x: u16, marks: &mut [u16]) {
     let mut left = up(x);
     while left > 0 {
         left -= 1;
+        mark_opening(links, left, marks);
         mark_followed(links, left, marks);
     }
 }
 
 // Event b follows event a.
 fn follows(links: &[u16], a: u16, b: u16) -> bool {
-    let mut marks = [0u16; 1024];
+    let mut marks = [0u16; 1088];
     mark_back(links, b, &mut marks);
     at(&marks, a as usize) == 1
 }
@@ -102,7 +115,7 @@ fn put_marked(
 
 // The n records turned: event x and all that it follows, then the others.
 fn bring_forward(records: &[u8], links: &[u16], n: u16, x: u16, turned: &mut [u8]) {
-    let mut marks = [0u16; 1024];
+    let mut marks = [0u16; 1088];
     mark_back(links, x, &mut marks);
     let next = put_marked(records, n, &marks, 1, turned, 0);
     put_marked(records, n, &marks, 0, turned, next);
@@ -118,24 +131,32 @@ fn trailer_of(r: Reading) -> Trailer {
         events: r.events,
         tasks: r.tasks,
         semaphores: r.semaphores,
+        flags: r.flags,
         cells: r.cells,
         edition: r.edition,
         starts: r.starts,
     }
 }
 
-// Writes the records of a file, which was read so, with event x brought forward, its start bytes and a
-// trailer.
+// Writes the records of a file, which was read so, with event x brought forward, its start bytes, its
+// post bytes and a trailer.
 fn put_forward(file: &[u8], r: Reading, links: &[u16], x: u16, out: &mut [u8])
     requires { ⌜ Read (length (now file)) r × (r .refusal ≡ 0) ⌝ }
 {
     let start = r.start;
     let size = 4 * (r.events as usize);
     let end = start + size;
-    let stop = end + r.starts as usize;
+    let mid = end + r.starts as usize;
+    let stop = mid + r.flags as usize;
     let mut turned = [0u8; 4096];
     bring_forward(&file[start..end], links, r.events, x, &mut turned);
-    writing::put_file(&turned[0..size], &file[end..stop], trailer_of(r), out);
+    writing::put_file(
+        &turned[0..size],
+        &file[end..mid],
+        &file[mid..stop],
+        trailer_of(r),
+        out,
+    );
 }
 
 // No length, and this refusal.
@@ -166,7 +187,7 @@ pub(crate) fn write_forward(
     if follows(links, x, y) || follows(links, y, x) {
         return refused(15);
     }
-    let length = 4 * (r.events as usize) + r.starts as usize + 16;
+    let length = 4 * (r.events as usize) + r.starts as usize + r.flags as usize + 16;
     if out.len() < length {
         return refused(12);
     }

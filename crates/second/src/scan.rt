@@ -1,7 +1,7 @@
 // One reading of a file, from the first record to the last: the refusals, each record's place in its
-// task, and the events that it follows. The state is a slice of numbers by task and by semaphore;
-// an event in it is its number plus 1, and 0 stands for none. The start counts are a slice of numbers
-// by semaphore, all 0 in edition 1.
+// task, and the events that it follows. The state is a slice of numbers by task, by semaphore and by
+// flag; an event in it is its number plus 1, and 0 stands for none. The levels are a slice of numbers:
+// by semaphore the start counts, all 0 in edition 1, then by flag the post counts.
 ghost use Prim.Native.Nat.{_+_, _*_, _≤_};
 ghost use lib.ListN.{length};
 ghost use mathlib.Core.Path.{_≡_};
@@ -10,7 +10,7 @@ ghost use Rattle.second.specs.Answers.{
   Refused,
   RecordFault,
   Known,
-  StartBytes,
+  LevelBytes,
   TrailerOf,
   TrailerFor,
   Blank,
@@ -43,8 +43,15 @@ const SIGNALS: u16 = 1024;
 
 const WAITS: u16 = 1280;
 
+// By flag: how many posts.
+const POSTS: u16 = 1536;
+
+// Where the post counts start in the levels.
+pub(crate) const POST_COUNTS: u16 = 64;
+
 // By event, what it follows: the event before it in its task or the fork of its task; at a join the
-// fork and the last event of the joined task; at a wait the signal that it takes.
+// fork and the last event of the joined task; at a wait the signal that it takes, and at a flag wait the
+// flag. A flag stands for one more event, behind the 1,024: it follows the posts that open it.
 pub(crate) const BEFORE: u16 = 0;
 
 pub(crate) const FORKED: u16 = 1;
@@ -53,15 +60,30 @@ pub(crate) const ENDED: u16 = 2;
 
 pub(crate) const TAKEN: u16 = 3;
 
-// A trailer, with the number of start bytes before it; refusal is 0 where 1 to 4 do not apply.
+// Behind these, by event: the flag that a post opens.
+const OPENED: u16 = 4096;
+
+// The number of the first flag, as an event.
+const FIRST_FLAG: u16 = 1024;
+
+// A trailer, with the number of start bytes before it, and as many post bytes as flags; refusal is 0
+// where 1 to 4 do not apply.
 pub(crate) struct Trailer {
     pub(crate) refusal: u16,
     pub(crate) start: usize,
     pub(crate) events: u16,
     pub(crate) tasks: u16,
     pub(crate) semaphores: u16,
+    pub(crate) flags: u16,
     pub(crate) cells: u16,
     pub(crate) edition: u16,
+    pub(crate) starts: u16,
+}
+
+// What the semaphore field of a trailer counts, and how many start bytes that makes.
+pub(crate) struct Levels {
+    pub(crate) semaphores: u16,
+    pub(crate) flags: u16,
     pub(crate) starts: u16,
 }
 
@@ -81,27 +103,39 @@ pub(crate) fn refused(number: u16) -> Trailer
         events: 0,
         tasks: 0,
         semaphores: 0,
+        flags: 0,
         cells: 0,
         edition: 0,
         starts: 0,
     }
 }
 
-// No edition of the file but 1 and 2.
+// No edition of the file but 1 to 3.
 pub(crate) fn unknown(edition: u16) -> bool
     ensures { λ r. ⌜ (r ≡ false → Known edition) ⌝ }
 {
     if edition < 1 {
         return true;
     }
-    2 < edition
+    3 < edition
 }
 
-// How many start bytes a file of an edition has.
-pub(crate) fn start_bytes(edition: u16, semaphores: u16) -> u16
-    ensures { λ r. ⌜ StartBytes edition semaphores r ⌝ }
+// What the semaphore field of an edition counts: in edition 3 its low byte semaphores, its high byte flags.
+pub(crate) fn levels_of(edition: u16, field: u16) -> Levels
+    ensures { λ l. ⌜ LevelBytes edition (l .semaphores) (l .flags) (l .starts) ⌝ }
 {
-    if edition == 2 { semaphores } else { 0 }
+    if edition == 3 {
+        return Levels {
+            semaphores: field % 256,
+            flags: field / 256,
+            starts: field % 256,
+        };
+    }
+    Levels {
+        semaphores: field,
+        flags: 0,
+        starts: if edition == 1 { 0 } else { field },
+    }
 }
 
 // A trailer of these counts, or refusal 4 where one is beyond its range.
@@ -109,13 +143,12 @@ pub(crate) fn ranged(
     start: usize,
     n: usize,
     tasks: u16,
-    semaphores: u16,
+    levels: Levels,
     cells: u16,
     edition: u16,
-    starts: u16,
 ) -> Trailer
-    requires { ⌜ Known edition × StartBytes edition semaphores starts ⌝ }
-    ensures { λ h. ⌜ TrailerOf start n starts h ⌝ }
+    requires { ⌜ Known edition × LevelBytes edition (levels .semaphores) (levels .flags) (levels .starts) ⌝ }
+    ensures { λ h. ⌜ TrailerOf start n (levels .starts + levels .flags) h ⌝ }
 {
     if tasks < 1 {
         return refused(4);
@@ -123,7 +156,10 @@ pub(crate) fn ranged(
     if 16 < tasks {
         return refused(4);
     }
-    if 64 < semaphores {
+    if 64 < levels.semaphores {
+        return refused(4);
+    }
+    if 64 < levels.flags {
         return refused(4);
     }
     if 1024 < cells {
@@ -137,15 +173,16 @@ pub(crate) fn ranged(
         start,
         events: n as u16,
         tasks,
-        semaphores,
+        semaphores: levels.semaphores,
+        flags: levels.flags,
         cells,
         edition,
-        starts,
+        starts: levels.starts,
     }
 }
 
-// Refusals 1 to 4.
-pub(crate) fn read_trailer(file: &[u8]) -> Trailer
+// Refusals 1 to 4, but for the post counts.
+fn read_counts(file: &[u8]) -> Trailer
     ensures { λ h. ⌜ TrailerFor (length (now (file .entry))) h ⌝ }
 {
     let size = file.len();
@@ -160,31 +197,45 @@ pub(crate) fn read_trailer(file: &[u8]) -> Trailer
     }
     let start = double(t, 0) as usize;
     let records = double(t, 4) as usize;
-    let semaphores = word(t, 10);
-    let starts = start_bytes(edition, semaphores);
-    if start + 4 * records + starts as usize != end {
+    let levels = levels_of(edition, word(t, 10));
+    if start + 4 * records + levels.starts as usize + levels.flags as usize != end {
         return refused(3);
     }
-    ranged(
-        start,
-        records,
-        word(t, 8),
-        semaphores,
-        word(t, 12),
-        edition,
-        starts,
-    )
+    ranged(start, records, word(t, 8), levels, word(t, 12), edition)
 }
 
-// The start counts, out of n start bytes.
-pub(crate) fn take_starts(part: &[u8], n: u16, starts: &mut [u16]) {
-    for s in 0..n {
-        put(starts, s as usize, byte(part, s as usize));
+// Whether one of the bytes is 0.
+pub(crate) fn has_zero(bytes: &[u8]) -> bool {
+    for i in 0..bytes.len() {
+        if byte(bytes, i) == 0 {
+            return true;
+        }
     }
+    false
 }
 
-fn slot(base: u16, i: u16) -> usize {
+// Refusals 1 to 4.
+pub(crate) fn read_trailer(file: &[u8]) -> Trailer
+    ensures { λ h. ⌜ TrailerFor (length (now (file .entry))) h ⌝ }
+{
+    let h = read_counts(file);
+    let from = h.start + 4 * (h.events as usize) + h.starts as usize;
+    let to = from + h.flags as usize;
+    if has_zero(&file[from..to]) {
+        return refused(4);
+    }
+    h
+}
+
+pub(crate) fn slot(base: u16, i: u16) -> usize {
     base as usize + i as usize
+}
+
+// The levels from the first one on, out of n start bytes or post bytes.
+pub(crate) fn take_levels(part: &[u8], n: u16, first: u16, levels: &mut [u16]) {
+    for i in 0..n {
+        put(levels, slot(first, i), byte(part, i as usize));
+    }
 }
 
 // The fields of record e, taken out of the record bytes.
@@ -202,7 +253,14 @@ fn names(kind: u16, h: Trailer) -> u16 {
     if kind <= 2 {
         return h.semaphores;
     }
-    if kind <= 4 { h.tasks } else { h.cells }
+    if kind <= 4 {
+        return h.tasks;
+    }
+    if kind <= 6 { h.cells } else { h.flags }
+}
+
+fn last_kind(edition: u16) -> u16 {
+    if edition == 3 { 8 } else { 6 }
 }
 
 fn fork_broken(state: &[u16], task: u16, object: u16) -> bool {
@@ -227,21 +285,26 @@ fn life_broken(state: &[u16], task: u16, kind: u16, object: u16) -> bool {
 }
 
 // Start count and signals so far do not outnumber the waits so far.
-fn is_empty(starts: &[u16], state: &[u16], object: u16) -> bool {
-    let start = at(starts, object as usize) as u32;
+fn is_empty(levels: &[u16], state: &[u16], object: u16) -> bool {
+    let start = at(levels, object as usize) as u32;
     let signals = at(state, slot(SIGNALS, object)) as u32;
     let waits = at(state, slot(WAITS, object)) as u32;
     start + signals <= waits
 }
 
-// Refusals 5 to 8 of record e; 0 for none.
-fn fault_of(events: &[u16], e: u16, h: Trailer, starts: &[u16], state: &[u16]) -> u16
+// The posts so far are fewer than the post count.
+fn is_down(levels: &[u16], state: &[u16], object: u16) -> bool {
+    at(state, slot(POSTS, object)) < at(levels, slot(POST_COUNTS, object))
+}
+
+// Refusals 5 to 8 and 16 of record e; 0 for none.
+fn fault_of(events: &[u16], e: u16, h: Trailer, levels: &[u16], state: &[u16]) -> u16
     ensures { λ r. ⌜ RecordFault r ⌝ }
 {
     let task = get(events, e, TASK);
     let kind = get(events, e, KIND);
     let object = get(events, e, OBJECT);
-    if kind < 1 || 6 < kind {
+    if kind < 1 || last_kind(h.edition) < kind {
         return 5;
     }
     if h.tasks <= task || names(kind, h) <= object {
@@ -250,8 +313,11 @@ fn fault_of(events: &[u16], e: u16, h: Trailer, starts: &[u16], state: &[u16]) -
     if life_broken(state, task, kind, object) {
         return 7;
     }
-    if kind == 2 && is_empty(starts, state, object) {
+    if kind == 2 && is_empty(levels, state, object) {
         return 8;
+    }
+    if kind == 8 && is_down(levels, state, object) {
+        return 16;
     }
     0
 }
@@ -280,12 +346,12 @@ fn signal_after(events: &[u16], e: u16, object: u16, skipped: u16) -> u16 {
 fn note_wait(
     e: u16,
     object: u16,
-    starts: &[u16],
+    levels: &[u16],
     events: &[u16],
     links: &mut [u16],
     state: &mut [u16],
 ) {
-    let start = at(starts, object as usize);
+    let start = at(levels, object as usize);
     let waits = at(state, slot(WAITS, object));
     let signal = if start <= waits {
         signal_after(events, e, object, waits - start)
@@ -302,6 +368,35 @@ fn note_join(e: u16, object: u16, links: &mut [u16], state: &mut [u16]) {
     put(state, slot(JOINED, object), 1);
 }
 
+// A flag as a link: its number as an event, plus 1.
+fn flag_link(object: u16) -> u16 {
+    FIRST_FLAG + object % 64 + 1
+}
+
+// The flag that event e opens, as a link; 0 for none.
+pub(crate) fn opened(links: &[u16], e: u16) -> u16 {
+    at(links, slot(OPENED, e))
+}
+
+// The first posts, as many as the post count, open their flag.
+fn note_post(e: u16, object: u16, levels: &[u16], links: &mut [u16], state: &mut [u16]) {
+    let opens = is_down(levels, state, object);
+    let flag = if opens { flag_link(object) } else { 0 };
+    put(links, slot(OPENED, e), flag);
+    add_one(state, slot(POSTS, object));
+}
+
+// What a post or a flag wait changes.
+fn note_flag(e: u16, kind: u16, object: u16, levels: &[u16], links: &mut [u16], state: &mut [u16]) {
+    if kind == 7 {
+        note_post(e, object, levels, links, state);
+        return;
+    }
+    if kind == 8 {
+        put(links, field(e, TAKEN), flag_link(object));
+    }
+}
+
 // Event e as the next one of its task.
 fn note_step(e: u16, task: u16, events: &mut [u16], links: &mut [u16], state: &mut [u16]) {
     let last = at(state, slot(LAST, task));
@@ -314,7 +409,7 @@ fn note_step(e: u16, task: u16, events: &mut [u16], links: &mut [u16], state: &m
 }
 
 // What the kind of event e changes.
-fn note_kind(e: u16, starts: &[u16], events: &[u16], links: &mut [u16], state: &mut [u16]) {
+fn note_kind(e: u16, levels: &[u16], events: &[u16], links: &mut [u16], state: &mut [u16]) {
     let kind = get(events, e, KIND);
     let object = get(events, e, OBJECT);
     if kind == 1 {
@@ -322,7 +417,7 @@ fn note_kind(e: u16, starts: &[u16], events: &[u16], links: &mut [u16], state: &
         return;
     }
     if kind == 2 {
-        note_wait(e, object, starts, events, links, state);
+        note_wait(e, object, levels, events, links, state);
         return;
     }
     if kind == 3 {
@@ -331,14 +426,16 @@ fn note_kind(e: u16, starts: &[u16], events: &[u16], links: &mut [u16], state: &
     }
     if kind == 4 {
         note_join(e, object, links, state);
+        return;
     }
+    note_flag(e, kind, object, levels, links, state);
 }
 
 // Event e is taken into the state.
-fn note(e: u16, starts: &[u16], events: &mut [u16], links: &mut [u16], state: &mut [u16]) {
+fn note(e: u16, levels: &[u16], events: &mut [u16], links: &mut [u16], state: &mut [u16]) {
     let task = get(events, e, TASK);
     note_step(e, task, events, links, state);
-    note_kind(e, starts, events, links, state);
+    note_kind(e, levels, events, links, state);
 }
 
 // Record e is taken out, checked, and taken into the state; its refusal, or 0.
@@ -346,7 +443,7 @@ fn step(
     records: &[u8],
     e: u16,
     h: Trailer,
-    starts: &[u16],
+    levels: &[u16],
     events: &mut [u16],
     links: &mut [u16],
     state: &mut [u16],
@@ -354,11 +451,11 @@ fn step(
     ensures { λ r. ⌜ RecordFault r ⌝ }
 {
     decode(records, e, events);
-    let number = fault_of(events, e, h, starts, state);
+    let number = fault_of(events, e, h, levels, state);
     if number != 0 {
         return number;
     }
-    note(e, starts, events, links, state);
+    note(e, levels, events, links, state);
     0
 }
 
@@ -366,7 +463,7 @@ fn step(
 pub(crate) fn scan(
     records: &[u8],
     h: Trailer,
-    starts: &[u16],
+    levels: &[u16],
     events: &mut [u16],
     links: &mut [u16],
     state: &mut [u16],
@@ -375,7 +472,7 @@ pub(crate) fn scan(
 {
     let n = h.events;
     for e in 0..n {
-        let number = step(records, e, h, starts, events, links, state);
+        let number = step(records, e, h, levels, events, links, state);
         if number != 0 {
             return Fault { number, record: e };
         }
@@ -390,7 +487,7 @@ pub(crate) fn scan(
 pub(crate) fn first_fault(
     file: &[u8],
     h: Trailer,
-    starts: &[u16],
+    levels: &[u16],
     events: &mut [u16],
     links: &mut [u16],
 ) -> Fault
@@ -404,6 +501,6 @@ pub(crate) fn first_fault(
         };
     }
     let start = h.start;
-    let mut state = [0u16; 1536];
-    scan(&file[start..], h, starts, events, links, &mut state)
+    let mut state = [0u16; 1792];
+    scan(&file[start..], h, levels, events, links, &mut state)
 }

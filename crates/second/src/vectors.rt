@@ -1,5 +1,5 @@
-// Safe and recorded vectors, sixteen numbers an event. The k-th least is found by counting how often
-// each value occurs.
+// Safe and recorded vectors, sixteen numbers an event; behind those of 1,024 events, the recorded ones
+// have sixteen for each of 64 flags. The k-th least is found by counting how often each value occurs.
 ghost use Rattle.second.specs.Answers.{Passed};
 use crate::memory::KIND;
 use crate::memory::OBJECT;
@@ -14,7 +14,10 @@ use crate::memory::up;
 use crate::scan::BEFORE;
 use crate::scan::ENDED;
 use crate::scan::FORKED;
+use crate::scan::POST_COUNTS;
 use crate::scan::TAKEN;
+use crate::scan::opened;
+use crate::scan::slot;
 
 pub(crate) struct Passes {
     pub(crate) passes: u32,
@@ -83,8 +86,17 @@ pub(crate) fn replay(events: &[u16], links: &[u16], n: u16, v: &mut [u16]) {
 
 fn replay_all(links: &[u16], n: u16, v: &mut [u16]) {
     for e in 0..n {
-        follow(v, links, e);
-        raise_by(v, links, e, TAKEN);
+        replay_event(links, e, v);
+    }
+}
+
+// Event e follows the signal that it takes or its flag; a flag follows the posts that open it.
+fn replay_event(links: &[u16], e: u16, v: &mut [u16]) {
+    follow(v, links, e);
+    raise_by(v, links, e, TAKEN);
+    let flag = opened(links, e);
+    if flag != 0 {
+        raise(v, flag - 1, e);
     }
 }
 
@@ -105,9 +117,15 @@ fn earlier_waits(events: &[u16], n: u16, v: &[u16], e: u16) -> u16 {
     count
 }
 
+// Whether event s serves e: a signal a wait on its semaphore, a post a flag wait on its flag.
+fn serves(events: &[u16], s: u16, e: u16) -> bool {
+    let kind = if get(events, e, KIND) == 2 { 1 } else { 7 };
+    is_on(events, s, kind, get(events, e, OBJECT))
+}
+
 // Puts s behind the candidates of a wait e, where it is one, and answers how many there are.
 fn add_candidate(events: &[u16], v: &[u16], e: u16, s: u16, found: &mut [u16], count: u16) -> u16 {
-    if !is_on(events, s, 1, get(events, e, OBJECT)) || before(events, v, e, s) {
+    if !serves(events, s, e) || before(events, v, e, s) {
         return count;
     }
     put(found, count as usize, s);
@@ -163,11 +181,22 @@ fn lowered(k: u16, start: u16) -> u16 {
     if start < k { k - start } else { 0 }
 }
 
-// Step 2 for a wait e.
-fn serve(events: &[u16], starts: &[u16], n: u16, v: &mut [u16], e: u16) -> bool {
+// How many signals a wait e needs, or posts a flag wait.
+fn needed(events: &[u16], levels: &[u16], n: u16, v: &[u16], e: u16) -> u16 {
+    let object = get(events, e, OBJECT);
+    if get(events, e, KIND) == 8 {
+        return at(levels, slot(POST_COUNTS, object));
+    }
+    lowered(
+        up(earlier_waits(events, n, v, e)),
+        at(levels, object as usize),
+    )
+}
+
+// Step 2 for a wait or a flag wait e.
+fn serve(events: &[u16], levels: &[u16], n: u16, v: &mut [u16], e: u16) -> bool {
     let mut found = [0u16; 1024];
-    let start = at(starts, get(events, e, OBJECT) as usize);
-    let k = lowered(up(earlier_waits(events, n, v, e)), start);
+    let k = needed(events, levels, n, v, e);
     let count = candidates(events, n, v, e, &mut found);
     if k == 0 || count < k {
         return false;
@@ -178,22 +207,23 @@ fn serve(events: &[u16], starts: &[u16], n: u16, v: &mut [u16], e: u16) -> bool 
 fn raise_event(
     events: &[u16],
     links: &[u16],
-    starts: &[u16],
+    levels: &[u16],
     n: u16,
     v: &mut [u16],
     e: u16,
 ) -> bool {
     let followed = follow(v, links, e);
-    if get(events, e, KIND) != 2 {
+    let kind = get(events, e, KIND);
+    if kind != 2 && kind != 8 {
         return followed;
     }
-    serve(events, starts, n, v, e) || followed
+    serve(events, levels, n, v, e) || followed
 }
 
-fn pass(events: &[u16], links: &[u16], starts: &[u16], n: u16, v: &mut [u16]) -> bool {
+fn pass(events: &[u16], links: &[u16], levels: &[u16], n: u16, v: &mut [u16]) -> bool {
     let mut rose = false;
     for e in 0..n {
-        rose = raise_event(events, links, starts, n, v, e) || rose;
+        rose = raise_event(events, links, levels, n, v, e) || rose;
     }
     rose
 }
@@ -202,7 +232,7 @@ fn pass(events: &[u16], links: &[u16], starts: &[u16], n: u16, v: &mut [u16]) ->
 pub(crate) fn run(
     events: &[u16],
     links: &[u16],
-    starts: &[u16],
+    levels: &[u16],
     n: u16,
     budget: u32,
     v: &mut [u16],
@@ -210,13 +240,13 @@ pub(crate) fn run(
     ensures { λ r. ⌜ Passed budget (r .passes) (r .settled) ⌝ }
 {
     start(events, n, v);
-    run_passes(events, links, starts, n, budget, v)
+    run_passes(events, links, levels, n, budget, v)
 }
 
 fn run_passes(
     events: &[u16],
     links: &[u16],
-    starts: &[u16],
+    levels: &[u16],
     n: u16,
     budget: u32,
     v: &mut [u16],
@@ -228,7 +258,7 @@ fn run_passes(
     while left > 0 {
         left -= 1;
         passes += 1;
-        if !pass(events, links, starts, n, v) {
+        if !pass(events, links, levels, n, v) {
             return Passes {
                 passes,
                 settled: true,

@@ -1,4 +1,4 @@
-// A file of record bytes, start bytes and counts.
+// A file of record bytes, start bytes, post bytes and counts.
 use crate::memory::byte;
 use crate::memory::put_byte;
 use crate::scan::Trailer;
@@ -28,27 +28,41 @@ fn put_trailer(out: &mut [u8], n: u16, tasks: u16, semaphores: u16, cells: u16, 
     put_word(out, 14, edition);
 }
 
-// The start bytes, then the trailer.
-fn put_end(starts: &[u8], h: Trailer, out: &mut [u8]) {
-    copy(starts, out);
-    let t = starts.len();
+// The semaphore field of a trailer.
+fn field_of(h: Trailer) -> u16 {
+    h.semaphores % 256 + h.flags % 256 * 256
+}
+
+// The post bytes, then the trailer.
+fn put_end(posts: &[u8], h: Trailer, out: &mut [u8]) {
+    copy(posts, out);
+    let t = posts.len();
     if t <= out.len() {
         put_trailer(
             &mut out[t..],
             h.events,
             h.tasks,
-            h.semaphores,
+            field_of(h),
             h.cells,
             h.edition,
         );
     }
 }
 
+// The start bytes, then the rest.
+fn put_levels(starts: &[u8], posts: &[u8], h: Trailer, out: &mut [u8]) {
+    copy(starts, out);
+    let t = starts.len();
+    if t <= out.len() {
+        put_end(posts, h, &mut out[t..]);
+    }
+}
+
 // The records, then the rest.
-pub(crate) fn put_file(records: &[u8], starts: &[u8], h: Trailer, out: &mut [u8]) {
+pub(crate) fn put_file(records: &[u8], starts: &[u8], posts: &[u8], h: Trailer, out: &mut [u8]) {
     copy(records, out);
     let t = records.len();
     if t <= out.len() {
-        put_end(starts, h, &mut out[t..]);
+        put_levels(starts, posts, h, &mut out[t..]);
     }
 }

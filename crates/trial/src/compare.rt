@@ -121,7 +121,7 @@ fn same_list(list: &[u16], refusal: u16, pairs: u32, other: &[u16]) -> bool {
 // Analysing, with as many work numbers and list numbers as are lent here.
 fn lent_analysis(file: &[u8], budget: u32, work: &mut [u16], list: &mut [u16]) -> bool {
     let mut safe = [0u16; 16384];
-    let mut recorded = [0u16; 16384];
+    let mut recorded = [0u16; 17408];
     let mut other = [0u16; 24576];
     let r = second::read(file);
     let o = second::analyse(
@@ -178,7 +178,7 @@ fn same_reply(answer: Answer, o: second::Reply) -> bool {
 
 fn lent_question(file: &[u8], a: usize, b: usize, budget: u32, work: &mut [u16]) -> bool {
     let mut safe = [0u16; 16384];
-    let mut recorded = [0u16; 16384];
+    let mut recorded = [0u16; 17408];
     fill(work, MARK);
     let r = second::read(file);
     let o = second::ask(file, a, b, budget, work.len(), &mut safe, &mut recorded);
@@ -206,6 +206,11 @@ pub(crate) fn question_agrees(file: &[u8], a: usize, b: usize, budget: u32, room
     part_question(file, a, b, budget, room, &mut work)
 }
 
+// The trailer's field for semaphores and flags.
+pub(crate) fn field_of(r: second::Reading) -> u16 {
+    r.flags % 256 * 256 + r.semaphores % 256
+}
+
 fn same_reading(reading: Reading, r: second::Reading) -> bool {
     match reading {
         Reading::Accepted(h) => {
@@ -213,7 +218,7 @@ fn same_reading(reading: Reading, r: second::Reading) -> bool {
                 && h.start == r.start
                 && h.records == r.events as usize
                 && h.counts.tasks == r.tasks
-                && h.counts.semaphores == r.semaphores
+                && h.counts.semaphores == field_of(r)
                 && h.counts.cells == r.cells
                 && h.counts.edition == r.edition
         }
@@ -265,17 +270,19 @@ pub(crate) fn same_part(part: &[u8], from: &[u8], n: usize) -> bool {
     part.len() == n && same_bytes(part, from, n)
 }
 
-// Records and start bytes follow one another, in what is behind the preamble.
+// Records, start bytes and post bytes follow one another, in what is behind the preamble.
 fn same_rest(file: &[u8], rest: &[u8], r: second::Reading) -> bool {
     let end = r.events as usize * 4;
-    if rest.len() < end {
+    let mid = end + r.starts as usize;
+    if rest.len() < mid {
         return false;
     }
     same_part(recording::records(file), rest, end)
         && same_part(recording::starts(file), &rest[end..], r.starts as usize)
+        && same_part(recording::posts(file), &rest[mid..], r.flags as usize)
 }
 
-// The three parts of an accepted file.
+// The four parts of an accepted file.
 fn same_parts(file: &[u8], r: second::Reading) -> bool {
     let start = r.start;
     if file.len() < start {
@@ -290,10 +297,11 @@ fn no_parts(file: &[u8]) -> bool {
     recording::preamble(file).len() == 0
         && records.len() == 0
         && recording::starts(file).len() == 0
+        && recording::posts(file).len() == 0
         && same_walk(records, 0)
 }
 
-// Reading, the preamble, the records' part, the start bytes and the walk.
+// Reading, the preamble, the records' part, the start bytes, the post bytes and the walk.
 pub(crate) fn reading_agrees(file: &[u8]) -> bool {
     let r = second::read(file);
     if !same_reading(recording::read(file), r) {
@@ -326,7 +334,7 @@ pub(crate) fn analysis_refused(file: &[u8], number: u16) -> bool {
 // How many pairs the second analyser finds.
 fn pairs_of(file: &[u8], budget: u32) -> u32 {
     let mut safe = [0u16; 16384];
-    let mut recorded = [0u16; 16384];
+    let mut recorded = [0u16; 17408];
     let mut list = [0u16; 3];
     let o = second::analyse(file, budget, 32768, 0, &mut safe, &mut recorded, &mut list);
     o.pairs

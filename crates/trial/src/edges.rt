@@ -1,7 +1,13 @@
 // Files at the ends of what a trailer may say.
+use crate::bytes::byte;
+use crate::bytes::fill_bytes;
 use crate::bytes::put_byte;
 use crate::bytes::up_by;
+use crate::compare::one_more;
+use crate::looks::part_of;
 use crate::make;
+use crate::rows::number;
+use crate::rows::short;
 use crate::tries::count;
 use crate::tries::refused_as;
 use crate::tries::say;
@@ -17,7 +23,8 @@ fn put_writes(file: &mut [u8], start: u32) {
     }
 }
 
-// A trailer: where the records start, how many they are, the counts, and the edition.
+// A trailer: where the records start, how many they are, the counts, with the field for semaphores and
+// flags, and the edition.
 struct Edge {
     start: u32,
     records: u32,
@@ -27,13 +34,32 @@ struct Edge {
     edition: u16,
 }
 
+// In edition 3, levels of 3 between the records and the trailer, which starts at a place.
+fn put_threes(file: &mut [u8], edge: Edge, end: u32) {
+    let from = edge.start as usize + edge.records as usize * 4;
+    let to = end as usize;
+    if edge.edition != 3 {
+        return;
+    }
+    if file.len() < to {
+        return;
+    }
+    if to < from {
+        return;
+    }
+    fill_bytes(&mut file[from..to], 3);
+}
+
 fn put_edge(file: &mut [u8], length: u32, edge: Edge) {
     let s = make::empty_shape(edge.tasks, edge.semaphores, edge.cells, edge.edition);
     make::mark_preamble(file, edge.start);
     put_writes(file, edge.start);
-    if 16 <= length {
-        make::put_trailer(file, length - 16, edge.start, edge.records, s);
+    if length < 16 {
+        return;
     }
+    let end = length - 16;
+    put_threes(file, edge, end);
+    make::put_trailer(file, end, edge.start, edge.records, s);
 }
 
 // Writing with the counts of the trailer, in range or not.
@@ -48,12 +74,12 @@ fn written_agrees(file: &[u8], edge: Edge) -> bool {
     writing::counts_agree(file, edge.start as usize, size, c)
 }
 
-// A file of so many bytes, with writes of cell 0 from the start on, also where start bytes stand, and
-// the number of its refusal.
+// A file of so many bytes, with writes of cell 0 from the start on, before edition 3 also where start
+// bytes stand, and the number of its refusal.
 fn try_edge(total: u32, length: u32, edge: Edge, number: u16) -> u32 {
-    let mut bytes = [0u8; 4200];
+    let mut bytes = [0u8; 4400];
     put_edge(&mut bytes, length, edge);
-    if 4200 < length {
+    if 4400 < length {
         return total;
     }
     let file = &bytes[0..length as usize];
@@ -62,191 +88,202 @@ fn try_edge(total: u32, length: u32, edge: Edge, number: u16) -> u32 {
     try_reading(try_writing(try_sizes(written, file, 2), file), file)
 }
 
-// The trailer of a file with this start, records and counts, and edition 1.
-fn edition_one(start: u32, records: u32, tasks: u16, semaphores: u16, cells: u16) -> Edge {
+// ---- rows: the length, where the records start, how many they are, tasks, semaphores, flags, cells,
+// edition, and the number of the refusal, 0 for none
+
+fn edge_of(row: &[u8]) -> Edge {
+    let flags = short(row, 5) % 256;
     Edge {
-        start,
-        records,
-        tasks,
-        semaphores,
-        cells,
-        edition: 1,
+        start: number(row, 1),
+        records: number(row, 2),
+        tasks: short(row, 3),
+        semaphores: if flags == 0 {
+            short(row, 4)
+        } else {
+            flags * 256 + short(row, 4) % 256
+        },
+        cells: short(row, 6),
+        edition: short(row, 7),
     }
 }
 
-// An empty recording with these counts.
-fn try_counts(total: u32, tasks: u16, semaphores: u16, cells: u16, number: u16) -> u32 {
-    try_edge(
-        total,
-        16,
-        edition_one(0, 0, tasks, semaphores, cells),
-        number,
-    )
-}
-
-// One task and one cell, with this start and these records.
-fn try_extent(total: u32, length: u32, start: u32, records: u32, number: u16) -> u32 {
-    try_edge(total, length, edition_one(start, records, 1, 0, 1), number)
-}
-
-// The same in edition 2.
-fn edition_two(start: u32, records: u32, tasks: u16, semaphores: u16, cells: u16) -> Edge {
-    Edge {
-        start,
-        records,
-        tasks,
-        semaphores,
-        cells,
-        edition: 2,
+fn try_rows(name: &[u8], table: &[u8]) {
+    let mut total = 0;
+    let mut from = 0;
+    for i in 0..table.len() {
+        if byte(table, i) == b';' {
+            let row = part_of(table, from, i);
+            total = try_edge(total, number(row, 0), edge_of(row), short(row, 8));
+            from = one_more(i);
+        }
     }
-}
-
-// One task, one cell and these semaphores, in edition 2.
-fn try_starts(
-    total: u32,
-    length: u32,
-    start: u32,
-    records: u32,
-    semaphores: u16,
-    number: u16,
-) -> u32 {
-    let edge = edition_two(start, records, 1, semaphores, 1);
-    try_edge(total, length, edge, number)
-}
-
-// An empty recording of this edition, and the number of its refusal.
-fn try_edition(total: u32, start: u32, edition: u16, number: u16) -> u32 {
-    let t = Edge {
-        start,
-        records: 0,
-        tasks: 1,
-        semaphores: 0,
-        cells: 0,
-        edition,
-    };
-    try_edge(total, 16, t, number)
+    say(name, total);
 }
 
 // Counts at and past their ends.
 pub(crate) fn try_ranges() {
-    let mut total = 0;
-    total = try_counts(total, 0, 0, 0, 4);
-    total = try_counts(total, 1, 0, 0, 0);
-    total = try_counts(total, 16, 0, 0, 0);
-    total = try_counts(total, 17, 0, 0, 4);
-    total = try_counts(total, 1, 64, 0, 0);
-    total = try_counts(total, 1, 65, 0, 4);
-    total = try_counts(total, 1, 0, 1024, 0);
-    total = try_counts(total, 1, 0, 1025, 4);
-    total = try_extent(total, 4112, 0, 1024, 0);
-    total = try_extent(total, 4116, 0, 1025, 4);
-    total = try_edge(total, 4128, edition_one(16, 1024, 16, 64, 1024), 0);
-    say(b"counts", total);
+    try_rows(
+        b"counts",
+        b"no task: 16 0 0 0 0 0 0 1 4;\
+        1 task: 16 0 0 1 0 0 0 1 0;\
+        16 tasks: 16 0 0 16 0 0 0 1 0;\
+        17 tasks: 16 0 0 17 0 0 0 1 4;\
+        64 semaphores: 16 0 0 1 64 0 0 1 0;\
+        65 semaphores: 16 0 0 1 65 0 0 1 4;\
+        1,024 cells: 16 0 0 1 0 0 1024 1 0;\
+        1,025 cells: 16 0 0 1 0 0 1025 1 4;\
+        1,024 records: 4112 0 1024 1 0 0 1 1 0;\
+        1,025 records: 4116 0 1025 1 0 0 1 1 4;\
+        all at their ends: 4128 16 1024 16 64 0 1024 1 0;",
+    );
 }
 
 // Lengths, starts and numbers of records that meet, and that do not.
 pub(crate) fn try_extents() {
-    let mut total = 0;
-    total = try_extent(total, 0, 0, 0, 1);
-    total = try_extent(total, 15, 0, 0, 1);
-    total = try_extent(total, 16, 0, 0, 0);
-    total = try_extent(total, 16, 1, 0, 3);
-    total = try_extent(total, 17, 1, 0, 0);
-    total = try_extent(total, 17, 0, 0, 3);
-    total = try_extent(total, 16, 0, 1, 3);
-    total = try_extent(total, 20, 0, 1, 0);
-    total = try_extent(total, 20, 0, 0, 3);
-    total = try_extent(total, 20, 0, 2, 3);
-    total = try_extent(total, 25, 5, 1, 0);
-    say(b"extents", total);
+    try_rows(
+        b"extents",
+        b"no byte: 0 0 0 1 0 0 1 1 1;\
+        15 bytes: 15 0 0 1 0 0 1 1 1;\
+        16 bytes: 16 0 0 1 0 0 1 1 0;\
+        start 1: 16 1 0 1 0 0 1 1 3;\
+        and 17 bytes: 17 1 0 1 0 0 1 1 0;\
+        17 bytes: 17 0 0 1 0 0 1 1 3;\
+        a record: 16 0 1 1 0 0 1 1 3;\
+        and 20 bytes: 20 0 1 1 0 0 1 1 0;\
+        20 bytes: 20 0 0 1 0 0 1 1 3;\
+        and two records: 20 0 2 1 0 0 1 1 3;\
+        a preamble and a record: 25 5 1 1 0 0 1 1 0;",
+    );
 }
 
 // Sums that meet the length only where they wrap, editions, and the order of the first four refusals.
 pub(crate) fn try_trailers() {
-    let mut total = 0;
-    total = try_extent(total, 16, 0, 1073741824, 3);
-    total = try_extent(total, 16, 4294967292, 1, 3);
-    total = try_extent(total, 16, 4294967295, 4294967295, 3);
-    total = try_edition(total, 0, 0, 2);
-    total = try_edition(total, 0, 1, 0);
-    total = try_edition(total, 0, 2, 0);
-    total = try_edition(total, 0, 3, 2);
-    // 1 and 2 but for the high byte
-    total = try_edition(total, 0, 257, 2);
-    total = try_edition(total, 0, 258, 2);
-    total = try_edition(total, 0, 512, 2);
-    total = try_edition(total, 0, 65535, 2);
-    total = try_edition(total, 1, 3, 2);
-    total = try_edition(total, 1, 2, 3);
-    total = try_edge(total, 16, edition_one(1, 0, 17, 0, 0), 3);
-    total = try_edge(total, 20, edition_one(0, 1, 17, 0, 0), 4);
-    total = try_edge(total, 20, edition_one(0, 1, 1, 0, 0), 6);
-    say(b"trailers", total);
+    try_rows(
+        b"trailers",
+        b"records that wrap: 16 0 1073741824 1 0 0 1 1 3;\
+        a start that wraps: 16 4294967292 1 1 0 0 1 1 3;\
+        both: 16 4294967295 4294967295 1 0 0 1 1 3;\
+        edition 0: 16 0 0 1 0 0 0 0 2;\
+        edition 1: 16 0 0 1 0 0 0 1 0;\
+        edition 2: 16 0 0 1 0 0 0 2 0;\
+        edition 3: 16 0 0 1 0 0 0 3 0;\
+        edition 4: 16 0 0 1 0 0 0 4 2;\
+        1 but for the high byte: 16 0 0 1 0 0 0 257 2;\
+        2 but for it: 16 0 0 1 0 0 0 258 2;\
+        3 but for it: 16 0 0 1 0 0 0 259 2;\
+        2 in it: 16 0 0 1 0 0 0 512 2;\
+        3 in it: 16 0 0 1 0 0 0 768 2;\
+        the largest: 16 0 0 1 0 0 0 65535 2;\
+        edition before extent: 16 1 0 1 0 0 0 4 2;\
+        edition 2, extent: 16 1 0 1 0 0 0 2 3;\
+        edition 3, extent: 16 1 0 1 0 0 0 3 3;\
+        extent before count: 16 1 0 17 0 0 0 1 3;\
+        count before name: 20 0 1 17 0 0 0 1 4;\
+        name: 20 0 1 1 0 0 0 1 6;",
+    );
 }
 
 // Counts at and past their ends, in edition 2.
 pub(crate) fn try_start_ranges() {
-    let mut total = 0;
-    total = try_edge(total, 16, edition_two(0, 0, 0, 0, 0), 4);
-    total = try_edge(total, 17, edition_two(0, 0, 16, 1, 0), 0);
-    total = try_edge(total, 17, edition_two(0, 0, 17, 1, 0), 4);
-    total = try_edge(total, 80, edition_two(0, 0, 1, 64, 0), 0);
-    total = try_edge(total, 81, edition_two(0, 0, 1, 65, 0), 4);
-    total = try_edge(total, 17, edition_two(0, 0, 1, 1, 1024), 0);
-    total = try_edge(total, 17, edition_two(0, 0, 1, 1, 1025), 4);
-    total = try_starts(total, 4113, 0, 1024, 1, 0);
-    total = try_starts(total, 4117, 0, 1025, 1, 4);
-    total = try_edge(total, 4192, edition_two(16, 1024, 16, 64, 1024), 0);
-    say(b"counts with start bytes", total);
+    try_rows(
+        b"counts with start bytes",
+        b"no task: 16 0 0 0 0 0 0 2 4;\
+        16 tasks: 17 0 0 16 1 0 0 2 0;\
+        17 tasks: 17 0 0 17 1 0 0 2 4;\
+        64 semaphores: 80 0 0 1 64 0 0 2 0;\
+        65 semaphores: 81 0 0 1 65 0 0 2 4;\
+        1,024 cells: 17 0 0 1 1 0 1024 2 0;\
+        1,025 cells: 17 0 0 1 1 0 1025 2 4;\
+        1,024 records: 4113 0 1024 1 1 0 1 2 0;\
+        1,025 records: 4117 0 1025 1 1 0 1 2 4;\
+        all at their ends: 4192 16 1024 16 64 0 1024 2 0;",
+    );
 }
 
 // Start bytes that meet the length, one missing and one too many.
 pub(crate) fn try_start_extents() {
-    let mut total = 0;
-    total = try_starts(total, 16, 0, 0, 0, 0);
-    total = try_starts(total, 17, 0, 0, 0, 3);
-    total = try_starts(total, 16, 0, 0, 1, 3);
-    total = try_starts(total, 17, 0, 0, 1, 0);
-    total = try_starts(total, 18, 0, 0, 1, 3);
-    total = try_starts(total, 79, 0, 0, 64, 3);
-    total = try_starts(total, 80, 0, 0, 64, 0);
-    total = try_starts(total, 81, 0, 0, 64, 3);
-    total = try_starts(total, 80, 0, 0, 65, 3);
-    total = try_starts(total, 81, 0, 0, 65, 4);
-    // as many start bytes as a record
-    total = try_starts(total, 20, 0, 0, 4, 0);
-    total = try_starts(total, 20, 0, 1, 4, 3);
-    total = try_starts(total, 24, 0, 1, 4, 0);
-    // behind a preamble and a record
-    total = try_starts(total, 26, 5, 1, 2, 3);
-    total = try_starts(total, 27, 5, 1, 2, 0);
-    total = try_starts(total, 28, 5, 1, 2, 3);
-    // edition 1 has none
-    total = try_edge(total, 16, edition_one(0, 0, 1, 1, 1), 0);
-    total = try_edge(total, 17, edition_one(0, 0, 1, 1, 1), 3);
-    say(b"extents with start bytes", total);
+    try_rows(
+        b"extents with start bytes",
+        b"none: 16 0 0 1 0 0 1 2 0;\
+        one too many: 17 0 0 1 0 0 1 2 3;\
+        one missing: 16 0 0 1 1 0 1 2 3;\
+        one: 17 0 0 1 1 0 1 2 0;\
+        two for one: 18 0 0 1 1 0 1 2 3;\
+        63 for 64: 79 0 0 1 64 0 1 2 3;\
+        64: 80 0 0 1 64 0 1 2 0;\
+        65 for 64: 81 0 0 1 64 0 1 2 3;\
+        64 for 65: 80 0 0 1 65 0 1 2 3;\
+        65: 81 0 0 1 65 0 1 2 4;\
+        as many as a record: 20 0 0 1 4 0 1 2 0;\
+        a record in place of them: 20 0 1 1 4 0 1 2 3;\
+        a record and them: 24 0 1 1 4 0 1 2 0;\
+        behind a preamble and a record, one missing: 26 5 1 1 2 0 1 2 3;\
+        behind these: 27 5 1 1 2 0 1 2 0;\
+        behind these, one too many: 28 5 1 1 2 0 1 2 3;\
+        edition 1 has none: 16 0 0 1 1 0 1 1 0;\
+        and not one: 17 0 0 1 1 0 1 1 3;",
+    );
 }
 
 // Semaphore counts that meet the length only where a sum wraps, and the order of the first four
 // refusals.
 pub(crate) fn try_start_trailers() {
-    let mut total = 0;
-    // in 8 bits
-    total = try_starts(total, 16, 0, 0, 256, 3);
-    total = try_starts(total, 17, 0, 0, 257, 3);
-    // in 16 bits
-    total = try_starts(total, 16, 1, 0, 65535, 3);
-    total = try_starts(total, 16, 0, 1, 65532, 3);
-    total = try_starts(total, 17, 5, 1, 65528, 3);
-    // in 32 bits
-    total = try_starts(total, 16, 4294967295, 0, 1, 3);
-    total = try_starts(total, 16, 4294967232, 0, 64, 3);
-    total = try_starts(total, 16, 0, 1073741823, 4, 3);
-    total = try_starts(total, 16, 4294967288, 1, 4, 3);
-    total = try_starts(total, 17, 0, 1073741824, 1, 3);
-    // extent before count, count before name
-    total = try_edge(total, 17, edition_two(0, 0, 17, 2, 0), 3);
-    total = try_edge(total, 22, edition_two(0, 1, 17, 2, 0), 4);
-    total = try_edge(total, 22, edition_two(0, 1, 1, 2, 0), 6);
-    say(b"trailers with start bytes", total);
+    try_rows(
+        b"trailers with start bytes",
+        b"in 8 bits: 16 0 0 1 256 0 1 2 3;\
+        one more: 17 0 0 1 257 0 1 2 3;\
+        in 16 bits, with a start: 16 1 0 1 65535 0 1 2 3;\
+        with a record: 16 0 1 1 65532 0 1 2 3;\
+        with both: 17 5 1 1 65528 0 1 2 3;\
+        in 32 bits, with a start: 16 4294967295 0 1 1 0 1 2 3;\
+        and 64 start bytes: 16 4294967232 0 1 64 0 1 2 3;\
+        with records: 16 0 1073741823 1 4 0 1 2 3;\
+        with both: 16 4294967288 1 1 4 0 1 2 3;\
+        records alone: 17 0 1073741824 1 1 0 1 2 3;\
+        extent before count: 17 0 0 17 2 0 0 2 3;\
+        count before name: 22 0 1 17 2 0 0 2 4;\
+        name: 22 0 1 1 2 0 0 2 6;",
+    );
+}
+
+// Counts at and past their ends, start bytes and post bytes that meet the length, one missing and one too
+// many, and the order of the first four refusals, in edition 3.
+pub(crate) fn try_flag_trailers() {
+    try_rows(
+        b"trailers with post bytes",
+        b"no semaphore and no flag: 16 0 0 1 0 0 1 3 0;\
+        a semaphore: 17 0 0 1 1 0 1 3 0;\
+        a flag: 17 0 0 1 0 1 1 3 0;\
+        no byte for it: 16 0 0 1 0 1 1 3 3;\
+        two bytes for it: 18 0 0 1 0 1 1 3 3;\
+        both: 18 0 0 1 1 1 1 3 0;\
+        one byte for both: 17 0 0 1 1 1 1 3 3;\
+        three bytes for both: 19 0 0 1 1 1 1 3 3;\
+        edition 2 has no flag: 17 0 0 1 0 1 1 2 3;\
+        but 256 semaphores: 272 0 0 1 0 1 1 2 4;\
+        and edition 1: 16 0 0 1 0 1 1 1 4;\
+        64 semaphores: 80 0 0 1 64 0 1 3 0;\
+        65 semaphores: 81 0 0 1 65 0 1 3 4;\
+        64 flags: 80 0 0 1 0 64 1 3 0;\
+        65 flags: 81 0 0 1 0 65 1 3 4;\
+        64 of both: 144 0 0 1 64 64 1 3 0;\
+        65 semaphores and 64 flags: 145 0 0 1 65 64 1 3 4;\
+        64 semaphores and 65 flags: 145 0 0 1 64 65 1 3 4;\
+        255 of both: 526 0 0 1 255 255 1 3 4;\
+        63 bytes for 64 flags: 79 0 0 1 0 64 1 3 3;\
+        65 bytes for 64 flags: 81 0 0 1 0 64 1 3 3;\
+        as many as a record: 20 0 0 1 2 2 1 3 0;\
+        a record in place of them: 20 0 1 1 2 2 1 3 3;\
+        behind a preamble and a record: 29 5 1 1 2 2 1 3 0;\
+        one missing: 28 5 1 1 2 2 1 3 3;\
+        a start that wraps: 16 4294967295 0 1 0 1 1 3 3;\
+        records that wrap: 17 0 1073741824 1 0 1 1 3 3;\
+        all at their ends: 4256 16 1024 16 64 64 1024 3 0;\
+        17 tasks: 17 0 0 17 0 1 1 3 4;\
+        1,025 cells: 17 0 0 1 0 1 1025 3 4;\
+        1,025 records: 4117 0 1025 1 0 1 1 3 4;\
+        extent before count: 17 0 0 17 1 1 0 3 3;\
+        count before name: 22 0 1 17 1 1 0 3 4;\
+        name: 22 0 1 1 1 1 0 3 6;",
+    );
 }

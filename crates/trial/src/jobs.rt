@@ -21,6 +21,7 @@ use crate::make::Draft;
 use crate::make::Shape;
 use crate::ordered::listed;
 use crate::tries::say;
+use crate::tries::say_in;
 use model::Reading;
 
 // How many comparisons, and how often they met what the group is to meet.
@@ -86,8 +87,8 @@ fn shuffle(seed: &mut u32, file: &mut [u8], at: u32, n: u16) {
 // ---- a second recording
 
 // A recording of the shape with these records, but for the one that starts at a place of them, if any, and
-// these start bytes; its length.
-fn put_other(file: &mut [u8], s: Shape, records: &[u8], without: usize, starts: &[u8]) -> u32 {
+// these level bytes; its length.
+fn put_other(file: &mut [u8], s: Shape, records: &[u8], without: usize, levels: &[u8]) -> u32 {
     let at = wide(s.preamble);
     make::mark_preamble(file, at);
     let cut = if without < records.len() {
@@ -98,7 +99,7 @@ fn put_other(file: &mut [u8], s: Shape, records: &[u8], without: usize, starts: 
     let kept = put_bytes(file, at, part_of(records, 0, cut));
     let rest = part_of(records, four_more(cut), records.len());
     let end = put_bytes(file, kept, rest);
-    let trailer = put_bytes(file, end, starts);
+    let trailer = put_bytes(file, end, levels);
     let n = if at <= end { (end - at) / 4 } else { 0 };
     make::put_trailer(file, trailer, at, n, s);
     up_by(trailer, 16)
@@ -108,25 +109,47 @@ fn four_more(x: usize) -> usize {
     if x < 65536 { x + 4 } else { x }
 }
 
-// A second recording of the work of file one, which has shape s: another preamble, and edition 2 with
-// start counts of 0 in place of edition 1 in one of two cases; its length.
+// Another edition in one of two cases: 2 in place of 1, and 3 with no flag in place of 2.
+fn draw_edition(seed: &mut u32, edition: u16) -> u16 {
+    if edition == 1 && make::draw(seed, 2) == 0 {
+        return 2;
+    }
+    if edition == 2 && make::draw(seed, 2) == 0 {
+        return 3;
+    }
+    edition
+}
+
+// The level bytes of a file: its start bytes, then its post bytes.
+fn levels_of(file: &[u8]) -> &[u8] {
+    let r = second::read(file);
+    let end = r.starts as usize + r.flags as usize + 16;
+    let n = file.len();
+    if n < end {
+        return part_of(file, 0, 0);
+    }
+    part_of(file, n - end, n - 16)
+}
+
+// A second recording of the work of file one, which has shape s: another preamble, and another edition in
+// one of two cases, with start counts of 0 where file one has none; its length.
 fn put_second(seed: &mut u32, one: &[u8], s: Shape, without: usize, file: &mut [u8]) -> u32 {
     let zeros = [0u8; 64];
-    let second = s.edition == 1 && make::draw(seed, 2) == 0;
+    let edition = draw_edition(seed, s.edition);
     let z = Shape {
         preamble: make::draw_word(seed, 9),
         events: s.events,
         tasks: s.tasks,
         semaphores: s.semaphores,
         cells: s.cells,
-        edition: if second { 2 } else { s.edition },
+        edition,
     };
     let records = recording::records(one);
-    if second {
+    if s.edition < edition && edition == 2 {
         let starts = part_of(&zeros, 0, s.semaphores as usize);
         return put_other(file, z, records, without, starts);
     }
-    put_other(file, z, records, without, recording::starts(one))
+    put_other(file, z, records, without, levels_of(one))
 }
 
 fn shuffle_file(seed: &mut u32, file: &mut [u8]) {
@@ -255,16 +278,16 @@ fn rename_tasks(file: &mut [u8], at: u32, n: u16, a: u8, b: u8) {
 }
 
 // The record at a place, of the same task, with another kind and object.
-fn change_record(seed: &mut u32, file: &mut [u8], i: u32) {
+fn change_record(seed: &mut u32, file: &mut [u8], i: u32, edition: u16) {
     let d = Draft {
         task: byte(file, i as usize) as u16,
-        kind: make::draw_from(seed, 1, 6),
+        kind: make::draw_from(seed, 1, make::kinds_in(edition)),
         object: make::draw_word(seed, 3),
     };
     make::put_record(file, i, d);
 }
 
-// Another record, two tasks for each other, another start count, or another count.
+// Another record, two tasks for each other, another start count or post count, or another count.
 fn change(seed: &mut u32, file: &mut [u8], what: u32) {
     let r = second::read(file);
     let at = (r.start % 65536) as u32;
@@ -273,7 +296,7 @@ fn change(seed: &mut u32, file: &mut [u8], what: u32) {
     let back = make::draw(seed, 3) % 3;
     let e = make::draw_word(seed, r.events);
     match what {
-        0 => change_record(seed, file, up_by(at, make::place(0, e))),
+        0 => change_record(seed, file, up_by(at, make::place(0, e)), r.edition),
         1 => rename_tasks(file, at, r.events, value % 3, value / 4),
         2 => make::damage_byte(file, length, 16 + back, value % 4),
         _ => make::damage_byte(file, length, 3 + back * 2, value),
@@ -331,7 +354,7 @@ fn try_unlike(t: Tally, one: &[u8], two: &[u8], which: u32) -> Tally {
 
 // So many jobs from a seed, changed where that is asked; and what they met.
 fn try_group(name: &[u8], first: u32, times: u32, m: Sizes, changed: bool, met: &[u8]) {
-    let mut seed = first;
+    let mut seed = make::first_seed(first, m.edition);
     let mut t = Tally { total: 0, met: 0 };
     for i in 0..times {
         let s = draw_shape(&mut seed, m);
@@ -341,7 +364,7 @@ fn try_group(name: &[u8], first: u32, times: u32, m: Sizes, changed: bool, met: 
             try_shuffled(t, &mut seed, s, m.all)
         };
     }
-    say(name, t.total);
+    say_in(name, m.edition, t.total);
     say(met, t.met);
 }
 

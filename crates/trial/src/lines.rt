@@ -113,7 +113,7 @@ fn budget_of(r: second::Reading) -> u32 {
 // Puts the lines of a file, and answers how many bytes they have.
 fn put_lines(file: &[u8], out: &mut [u8]) -> u32 {
     let mut safe = [0u16; 16384];
-    let mut recorded = [0u16; 16384];
+    let mut recorded = [0u16; 17408];
     let mut list = [0u16; 24576];
     let r = second::read(file);
     let start = r.start;

@@ -11,6 +11,7 @@ use crate::make;
 use crate::make::Shape;
 use crate::tries::count;
 use crate::tries::say;
+use crate::tries::say_in;
 use crate::worked::put_text;
 use model::Found;
 use second::Look;
@@ -240,11 +241,11 @@ fn try_made(start: u32, seed: &mut u32, s: Shape, all: bool) -> u32 {
 
 // So many recordings from a seed.
 pub(crate) fn try_drawn(name: &[u8], first: u32, times: u32, m: Sizes) {
-    let mut seed = first;
+    let mut seed = make::first_seed(first, m.edition);
     let mut total = 0;
     for i in 0..times {
         let s = draw_shape(&mut seed, m);
         total = try_made(total, &mut seed, s, m.all);
     }
-    say(name, total);
+    say_in(name, m.edition, total);
 }

@@ -13,6 +13,7 @@ mod looks;
 mod make;
 mod ordered;
 mod refusals;
+mod rows;
 mod shown;
 mod tries;
 mod turned;
@@ -26,6 +27,7 @@ use generated::try_chains;
 use generated::try_changed;
 use generated::try_damaged;
 use generated::try_drawn;
+use jobs::try_jobs;
 
 // Up to 14 events of a few tasks.
 fn small(edition: u16) -> Sizes {
@@ -91,6 +93,9 @@ fn try_by_hand() {
     worked::try_start_rows();
     worked::try_start_waits();
     worked::try_start_matches();
+    worked::try_flags();
+    worked::try_flag_rows();
+    generated::try_posts();
     worked::try_prints();
     refusals::try_orders();
     refusals::try_sent_orders();
@@ -102,39 +107,25 @@ fn try_by_hand() {
     edges::try_start_ranges();
     edges::try_start_extents();
     edges::try_start_trailers();
+    edges::try_flag_trailers();
 }
 
 // Two recordings of one job.
-fn try_two() {
-    twice::try_worked_pairs();
-    twice::try_marks();
-    twice::try_differences();
-    twice::try_counts();
-    jobs::try_jobs(b"two recordings, small", 2051, 2000, busy(1));
-    jobs::try_jobs(b"two recordings, small, edition 2", 2052, 2000, busy(2));
-    jobs::try_jobs(b"two recordings, middling", 2053, 200, middling(1));
-    jobs::try_jobs(b"two recordings, edition 2", 2054, 200, middling(2));
-    jobs::try_jobs(b"two recordings, large", 2055, 4, large(1));
-    jobs::try_jobs(b"two recordings, large, edition 2", 2056, 4, large(2));
-    jobs::try_changed(b"two recordings, changed", 2057, 4000, busy(1));
-    jobs::try_changed(b"two recordings, changed, edition 2", 2058, 4000, busy(2));
-    jobs::try_changed(b"two recordings, middling, changed", 2059, 400, middling(1));
+fn try_two(edition: u16) {
+    try_jobs(b"two recordings, small", 1951, 2000, busy(edition));
+    try_jobs(b"two recordings, middling", 1953, 200, middling(edition));
+    try_jobs(b"two recordings, large", 1955, 4, large(edition));
+    jobs::try_changed(b"two recordings, changed", 1957, 4000, busy(edition));
+    let some = middling(edition);
+    jobs::try_changed(b"two recordings, middling, changed", 1959, 400, some);
 }
 
 // Orders that show a pair reversed.
-fn try_reversed() {
-    turned::try_worked();
-    turned::try_refusals();
-    turned::try_all_pairs(b"reversed, small", 2061, 1200, small(1));
-    turned::try_all_pairs(b"reversed, small, edition 2", 2062, 1200, small(2));
-    turned::try_all_pairs(b"reversed, busy", 2063, 100, busy(1));
-    turned::try_all_pairs(b"reversed, busy, edition 2", 2064, 100, busy(2));
-    turned::try_damaged(b"reversed, damaged", 2065, 6000, small(1));
-    turned::try_damaged(b"reversed, damaged, edition 2", 2066, 6000, small(2));
-    turned::try_some_pairs(b"reversed, middling", 2067, 300, middling(1));
-    turned::try_some_pairs(b"reversed, middling, edition 2", 2068, 300, middling(2));
-    turned::try_full(b"reversed, 1,024 events", 2069, 1);
-    turned::try_full(b"reversed, 1,024 events, edition 2", 2072, 2);
+fn try_reversed(edition: u16) {
+    turned::try_all_pairs(b"reversed, small", 1961, 1200, small(edition));
+    turned::try_all_pairs(b"reversed, busy", 1963, 100, busy(edition));
+    turned::try_damaged(b"reversed, damaged", 1965, 6000, small(edition));
+    turned::try_some_pairs(b"reversed, middling", 1967, 300, middling(edition));
 }
 
 // Looks for the last event of a task.
@@ -142,44 +133,47 @@ fn try_looks() {
     looks::try_parts_of_five();
     looks::try_lengths();
     looks::try_any_bytes();
-    looks::try_drawn(b"last events, small recordings", 2042, 40, small(1));
-    looks::try_drawn(b"last events, middling, edition 2", 2043, 400, middling(2));
-    looks::try_drawn(b"last events, large recordings", 2044, 20, large(1));
+    looks::try_drawn(b"last events, small recordings", 1942, 40, small(1));
+    looks::try_drawn(b"last events, middling", 1943, 400, middling(2));
+    looks::try_drawn(b"last events, large recordings", 1944, 20, large(3));
 }
 
-// Recordings of edition 1.
-fn try_edition_one() {
-    try_drawn(b"small recordings", 2021, 12000, small(1));
-    try_damaged(b"small damaged recordings", 2022, 12000, small(1));
-    try_changed(b"every byte changed", 2028, 20, small(1));
-    try_all_asked(b"questions", 2023, 2000, small(1));
-    try_drawn(b"middling recordings", 2024, 4000, middling(1));
-    try_damaged(b"middling damaged recordings", 2025, 2000, middling(1));
-    try_drawn(b"large recordings", 2026, 80, large(1));
-    try_damaged(b"large damaged recordings", 2027, 40, large(1));
-    try_chains(b"chains", 1, 0, 100);
+// Recordings of an edition.
+fn try_generated(edition: u16) {
+    try_drawn(b"small recordings", 1921, 12000, small(edition));
+    try_damaged(b"small damaged recordings", 1922, 12000, small(edition));
+    try_changed(b"every byte changed", 1928, 60, small(edition));
+    try_all_asked(b"questions", 1923, 2000, small(edition));
+    try_drawn(b"middling recordings", 1924, 4000, middling(edition));
+    let some = middling(edition);
+    try_damaged(b"middling damaged recordings", 1925, 2000, some);
+    try_drawn(b"large recordings", 1926, 80, large(edition));
+    try_damaged(b"large damaged recordings", 1927, 40, large(edition));
+    try_chains(b"chains", edition, if edition == 1 { 100 } else { 30 });
 }
 
-// Recordings of edition 2, with start counts.
-fn try_edition_two() {
-    try_drawn(b"small recordings, edition 2", 2031, 6000, small(2));
-    try_damaged(b"small damaged, edition 2", 2032, 6000, small(2));
-    try_changed(b"every byte changed, edition 2", 2038, 60, small(2));
-    try_all_asked(b"questions, edition 2", 2033, 1000, small(2));
-    try_drawn(b"middling recordings, edition 2", 2034, 3000, middling(2));
-    try_damaged(b"middling damaged, edition 2", 2035, 2000, middling(2));
-    try_drawn(b"large recordings, edition 2", 2036, 40, large(2));
-    try_damaged(b"large damaged, edition 2", 2037, 40, large(2));
-    try_chains(b"chains, edition 2", 2, 1, 30);
+// The groups that are made in each edition.
+fn try_edition(edition: u16) {
+    try_two(edition);
+    try_reversed(edition);
+    try_generated(edition);
 }
 
 fn main() {
     try_by_hand();
     ordered::try_shuffled();
     ordered::try_wide();
-    try_two();
-    try_reversed();
+    twice::try_worked_pairs();
+    twice::try_marks();
+    twice::try_differences();
+    twice::try_counts();
+    turned::try_worked();
+    turned::try_refusals();
+    turned::try_full(b"reversed, 1,024 events", 2069, 1);
+    turned::try_full(b"reversed, 1,024 events", 2072, 2);
+    turned::try_full(b"reversed, 1,024 events", 2073, 3);
     try_looks();
-    try_edition_one();
-    try_edition_two();
+    try_edition(1);
+    try_edition(2);
+    try_edition(3);
 }

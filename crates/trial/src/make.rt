@@ -1,5 +1,6 @@
 // Recordings from a fixed seed: events are drawn and kept where the rules allow them, so that forks,
-// joins and waits that compete for signals occur; then some are damaged.
+// joins, waits that compete for signals, and posts before and after a flag opens occur; then some are
+// damaged.
 use crate::bytes::fill_bytes;
 use crate::bytes::number;
 use crate::bytes::put_byte;
@@ -9,7 +10,8 @@ use crate::bytes::put_word;
 use crate::bytes::up_by;
 use crate::bytes::wide;
 
-// How large a recording may be: its preamble and events, and its counts; and its edition.
+// How large a recording may be: its preamble and events, and its counts; and its edition. The semaphores
+// are the trailer's field, which in edition 3 counts flags in its high byte.
 pub(crate) struct Shape {
     pub(crate) preamble: u16,
     pub(crate) events: u16,
@@ -25,8 +27,9 @@ pub(crate) struct Draft {
     pub(crate) object: u16,
 }
 
-// What has happened, by semaphore or by task: what a wait can take, of the start count and of signals;
-// forked; joined; has a record; runs only once forked; and the start counts.
+// What has happened, by semaphore, by task or by flag: what a wait can take, of the start count and of
+// signals; forked; joined; has a record; runs only once forked; the start counts; how many posts a flag
+// lacks; and the post counts.
 const STOCK: u16 = 0;
 
 const FORKED: u16 = 64;
@@ -38,6 +41,15 @@ const SEEN: u16 = 192;
 const LATE: u16 = 256;
 
 const STARTS: u16 = 320;
+
+const LACK: u16 = 384;
+
+const POSTS: u16 = 448;
+
+// The seed of a group, another one for each edition.
+pub(crate) fn first_seed(group: u32, edition: u16) -> u32 {
+    group % 1000000 + edition as u32 * 100
+}
 
 // A number below n; 0 where n is 0.
 pub(crate) fn draw(seed: &mut u32, n: u32) -> u32 {
@@ -68,16 +80,39 @@ fn put(life: &mut [u16], what: u16, i: u16, v: u16) {
     put_number(life, what as usize + i as usize, v);
 }
 
-fn names(kind: u16, s: Shape) -> u16 {
-    if kind <= 2 {
-        return s.semaphores;
+fn semaphores_in(s: Shape) -> u16 {
+    if s.edition == 3 {
+        s.semaphores % 256
+    } else {
+        s.semaphores
     }
-    if kind <= 4 { s.tasks } else { s.cells }
+}
+
+fn flags_in(s: Shape) -> u16 {
+    if s.edition == 3 {
+        s.semaphores / 256
+    } else {
+        0
+    }
+}
+
+// The kinds of an edition.
+pub(crate) fn kinds_in(edition: u16) -> u16 {
+    if edition == 3 { 8 } else { 6 }
+}
+
+fn names(kind: u16, s: Shape) -> u16 {
+    match kind {
+        1 | 2 => semaphores_in(s),
+        3 | 4 => s.tasks,
+        5 | 6 => s.cells,
+        _ => flags_in(s),
+    }
 }
 
 fn drawn(seed: &mut u32, s: Shape) -> Draft {
     let task = draw_word(seed, s.tasks);
-    let kind = draw_from(seed, 1, 6);
+    let kind = draw_from(seed, 1, kinds_in(s.edition));
     let object = draw_word(seed, names(kind, s));
     Draft { task, kind, object }
 }
@@ -98,35 +133,28 @@ fn allowed(life: &[u16], d: Draft, s: Shape) -> bool {
     if !may_run(life, d.task) || names(d.kind, s) == 0 {
         return false;
     }
-    if d.kind == 2 {
-        return at(life, STOCK, d.object) != 0;
+    let kind = d.kind;
+    match kind {
+        2 => at(life, STOCK, d.object) != 0,
+        3 => may_fork(life, d),
+        4 => may_join(life, d),
+        8 => at(life, LACK, d.object) == 0,
+        _ => true,
     }
-    if d.kind == 3 {
-        return may_fork(life, d);
-    }
-    if d.kind == 4 {
-        return may_join(life, d);
-    }
-    true
 }
 
 fn note(life: &mut [u16], d: Draft) {
     put(life, SEEN, d.task, 1);
     let stock = at(life, STOCK, d.object);
-    if d.kind == 1 {
-        put(life, STOCK, d.object, one_more(stock));
-        return;
-    }
-    if d.kind == 2 {
-        put(life, STOCK, d.object, one_less(stock));
-        return;
-    }
-    if d.kind == 3 {
-        put(life, FORKED, d.object, 1);
-        return;
-    }
-    if d.kind == 4 {
-        put(life, JOINED, d.object, 1);
+    let lack = at(life, LACK, d.object);
+    let kind = d.kind;
+    match kind {
+        1 => put(life, STOCK, d.object, one_more(stock)),
+        2 => put(life, STOCK, d.object, one_less(stock)),
+        3 => put(life, FORKED, d.object, 1),
+        4 => put(life, JOINED, d.object, 1),
+        7 => put(life, LACK, d.object, one_less(lack)),
+        _ => put(life, SEEN, d.task, 1),
     }
 }
 
@@ -209,7 +237,12 @@ pub(crate) fn put_trailer(file: &mut [u8], i: u32, start: u32, n: u32, s: Shape)
 
 // How many start bytes a recording has.
 fn starts_in(s: Shape) -> u16 {
-    if s.edition == 2 { s.semaphores } else { 0 }
+    if s.edition == 1 { 0 } else { semaphores_in(s) }
+}
+
+// How many start bytes and post bytes a recording has.
+pub(crate) fn levels_in(s: Shape) -> u16 {
+    starts_in(s) % 256 + flags_in(s) % 256
 }
 
 // 0, 1, 4, 255, or a small number.
@@ -223,27 +256,50 @@ fn draw_start(seed: &mut u32) -> u16 {
     }
 }
 
-fn set_starts(seed: &mut u32, life: &mut [u16], n: u16) {
-    for i in 0..n {
-        let start = draw_start(seed);
-        put(life, STARTS, i, start);
-        put(life, STOCK, i, start);
+// Mostly 1 or 2, so that flags open; 255, or up to 4.
+fn draw_post(seed: &mut u32) -> u16 {
+    match draw(seed, 8) {
+        0 => 255,
+        1 => draw_from(seed, 1, 4),
+        2 | 3 | 4 => 2,
+        _ => 1,
     }
 }
 
-fn put_starts(file: &mut [u8], end: u32, life: &[u16], n: u16) {
-    for i in 0..n {
-        let start = at(life, STARTS, i);
-        put_byte(file, up_by(end, wide(i)) as usize, (start % 256) as u8);
+fn draw_level(seed: &mut u32, what: u16) -> u16 {
+    if what == STARTS {
+        draw_start(seed)
+    } else {
+        draw_post(seed)
     }
+}
+
+// Draws n start counts or post counts, and what is there of them before the first event.
+fn set_levels(seed: &mut u32, life: &mut [u16], what: u16, first: u16, n: u16) {
+    for i in 0..n {
+        let level = draw_level(seed, what);
+        put(life, what, i, level);
+        put(life, first, i, level);
+    }
+}
+
+// Puts n start counts or post counts at a place of the file, and answers where they end.
+fn put_levels(file: &mut [u8], from: u32, life: &[u16], what: u16, n: u16) -> u32 {
+    for i in 0..n {
+        let level = at(life, what, i);
+        put_byte(file, up_by(from, wide(i)) as usize, (level % 256) as u8);
+    }
+    up_by(from, wide(n))
 }
 
 // A recording that reading accepts, of at most the shape's events; its length.
 pub(crate) fn make(seed: &mut u32, s: Shape, file: &mut [u8]) -> u32 {
-    let mut life = [0u16; 384];
+    let mut life = [0u16; 512];
     let starts = starts_in(s);
+    let flags = flags_in(s);
     set_late(seed, &mut life, s.tasks);
-    set_starts(seed, &mut life, starts);
+    set_levels(seed, &mut life, STARTS, STOCK, starts);
+    set_levels(seed, &mut life, POSTS, LACK, flags);
     let tries = if s.events < 20000 {
         s.events * 3
     } else {
@@ -251,9 +307,8 @@ pub(crate) fn make(seed: &mut u32, s: Shape, file: &mut [u8]) -> u32 {
     };
     mark_preamble(file, wide(s.preamble));
     let n = grow_all(seed, s, &mut life, file, tries);
-    let at = place(s.preamble, n);
-    put_starts(file, at, &life, starts);
-    let end = up_by(at, wide(starts));
+    let posts = put_levels(file, place(s.preamble, n), &life, STARTS, starts);
+    let end = put_levels(file, posts, &life, POSTS, flags);
     put_trailer(file, end, wide(s.preamble), wide(n), s);
     up_by(end, 16)
 }
@@ -288,7 +343,7 @@ pub(crate) fn damage(seed: &mut u32, s: Shape, file: &mut [u8], length: u32) -> 
     if what == 3 {
         let d = Draft {
             task: draw_word(seed, s.tasks),
-            kind: draw_word(seed, 9),
+            kind: draw_word(seed, kinds_in(s.edition) % 16 + 3),
             object: draw_word(seed, 6),
         };
         put_record(file, place(s.preamble, draw_word(seed, s.events)), d);

@@ -16,6 +16,7 @@ use crate::looks::part_of;
 use crate::ordered::name_events;
 use crate::tries::count;
 use crate::tries::say;
+use crate::tries::say_in;
 use crate::writing;
 use model::Analysis;
 use model::Answer;
@@ -57,17 +58,20 @@ fn is_rearranged(a: &[u8], names: &[u16], b: &[u8], other_names: &[u16], n: u16)
     true
 }
 
-// Reading accepts the recording, with start 0 and the events, counts, edition and start bytes of the file.
+// Reading accepts the recording, with start 0 and the events, counts, edition, start bytes and post bytes
+// of the file.
 fn is_read(file: &[u8], shown: &[u8]) -> bool {
     let r = second::read(file);
     let s = second::read(shown);
     let starts = recording::starts(file);
+    let posts = recording::posts(file);
     compare::reading_agrees(shown)
         && s.refusal == 0
         && s.start == 0
         && s.events == r.events
         && writing::same_counts(s, writing::counts_of(r))
         && compare::same_part(recording::starts(shown), starts, starts.len())
+        && compare::same_part(recording::posts(shown), posts, posts.len())
 }
 
 fn is_analysed(file: &[u8]) -> bool {
@@ -247,7 +251,8 @@ fn size_lent(needed: usize, which: u32) -> usize {
 
 // A call with one of the sizes.
 fn sized_call(file: &[u8], x: usize, y: usize, which: u32, shown: &mut [u8]) -> Outcome {
-    let size = writing::room_needed(recording::records(file), recording::starts(file));
+    let levels = recording::starts(file).len() + recording::posts(file).len();
+    let size = writing::room_needed(recording::records(file).len(), levels);
     let room = compare::work_needed(file);
     call(
         file,
@@ -276,8 +281,8 @@ pub(crate) fn no_tries() -> Tally {
     }
 }
 
-pub(crate) fn say_tally(name: &[u8], t: Tally) {
-    say(name, t.total);
+pub(crate) fn say_tally(name: &[u8], edition: u16, t: Tally) {
+    say_in(name, edition, t.total);
     say(b"  recordings written", t.written);
     say(b"  refused by 15", t.unsure);
 }

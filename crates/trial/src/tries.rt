@@ -15,6 +15,16 @@ pub(crate) fn say(name: &[u8], count: u32) {
     io::write_all(STDOUT_FILENO, b"\n");
 }
 
+// The same of a group that is made in each edition: from edition 2 on its name says which.
+pub(crate) fn say_in(name: &[u8], edition: u16, count: u32) {
+    io::write_all(STDOUT_FILENO, name);
+    if edition != 1 {
+        io::write_all(STDOUT_FILENO, b", edition ");
+        io::print_decimal(STDOUT_FILENO, edition as u64);
+    }
+    say(b"", count);
+}
+
 fn say_bytes(s: &[u8]) {
     for i in 0..s.len() {
         io::print_hex(STDOUT_FILENO, byte(s, i) as u64, 2);
@@ -53,7 +63,7 @@ pub(crate) fn try_sizes(start: u32, file: &[u8], budget: u32) -> u32 {
 // Writing with each size of output, and with what does not fit together.
 pub(crate) fn try_writing(start: u32, file: &[u8]) -> u32 {
     let mut total = start;
-    for which in 0..10u32 {
+    for which in 0..writing::WAYS {
         total = count(total, writing::sized_writing_agrees(file, which), file);
     }
     total

@@ -42,7 +42,7 @@ fn writes(file: &[u8], x: usize, y: usize, order: &[u8]) -> bool {
     refusal == 0 && same_order(recording::records(file), &shown, order)
 }
 
-// A to J of document 01; P is a pool of four, Q a job with a join. Its length.
+// A to O as two recordings; P is a pool of four, Q a job with a join. Its length.
 fn put_named(file: &mut [u8], name: u8) -> u32 {
     let pool = make::empty_shape(2, 1, 1, 2);
     let joined = make::empty_shape(3, 0, 1, 1);
@@ -81,7 +81,8 @@ fn try_all_orders(start: Tally) -> Tally {
     t = try_orders(t, b'G', 3, 2, b"013245", b"012345");
     t = try_orders(t, b'P', 6, 0, b"234560178", b"012345678");
     t = try_orders(t, b'Q', 4, 3, b"401235", b"012345");
-    try_orders(t, b'Q', 4, 1, b"401235", b"012345")
+    t = try_orders(t, b'Q', 4, 1, b"401235", b"012345");
+    try_orders(t, b'L', 4, 1, b"03412", b"10234")
 }
 
 pub(crate) fn try_worked() {
@@ -96,15 +97,21 @@ pub(crate) fn try_worked() {
     t = try_unsure(t, b'H', 0, 1);
     t = try_unsure(t, b'P', 0, 8);
     t = try_unsure(t, b'Q', 1, 3);
-    say_tally(b"reversed, worked", t);
+    t = try_unsure(t, b'K', 0, 4);
+    t = try_unsure(t, b'L', 0, 4);
+    t = try_unsure(t, b'M', 0, 4);
+    t = try_unsure(t, b'M', 2, 4);
+    say_tally(b"reversed, worked", 1, t);
 }
 
 // ---- refusals
 
-// A recording of two tasks, one semaphore and one cell, with one of the sizes: the refusal of a call.
+// A recording of two tasks, one semaphore, one flag that one post opens, and one cell, with one of the
+// sizes: the refusal of a call.
 fn try_text(t: Tally, text: &[u8], x: usize, y: usize, which: u32, number: u16) -> Tally {
     let mut bytes = [0u8; 400];
-    let n = put_recording(&mut bytes, make::empty_shape(2, 1, 1, 1), b"", text);
+    let s = make::empty_shape(2, 257, 1, 3);
+    let n = put_recording(&mut bytes, s, b"\x00\x01", text);
     try_refused(t, part_of(&bytes, 0, n as usize), x, y, which, number)
 }
 
@@ -136,7 +143,8 @@ fn try_faulty(start: Tally, which: u32) -> Tally {
     t = try_text(t, b"0W0 0y0", 0, 0, which, 5);
     t = try_text(t, b"0W0 0W1", 0, 2, which, 6);
     t = try_text(t, b"0W0 0F0", 2, 0, which, 7);
-    try_text(t, b"0P0 0P0", 0, 1, which, 8)
+    t = try_text(t, b"0P0 0P0", 0, 1, which, 8);
+    try_text(t, b"0W0 0G0", 0, 0, which, 16)
 }
 
 // The file's refusal comes before 11, and 11 before 9, 15 and 12.
@@ -171,7 +179,7 @@ fn try_late(start: Tally) -> Tally {
 }
 
 pub(crate) fn try_refusals() {
-    say_tally(b"reversed, refusals", try_late(try_early(no_tries())));
+    say_tally(b"reversed, refusals", 1, try_late(try_early(no_tries())));
 }
 
 // ---- generated recordings
@@ -221,13 +229,13 @@ fn try_shape(t: Tally, seed: &mut u32, s: Shape, damaged: bool, pairs: u32) -> T
 
 // So many recordings from a seed.
 fn try_group(name: &[u8], first: u32, times: u32, m: Sizes, damaged: bool, pairs: u32) {
-    let mut seed = first;
+    let mut seed = make::first_seed(first, m.edition);
     let mut t = no_tries();
     for i in 0..times {
         let s = draw_shape(&mut seed, m);
         t = try_shape(t, &mut seed, s, damaged, pairs);
     }
-    say_tally(name, t);
+    say_tally(name, m.edition, t);
 }
 
 // All pairs of so many recordings.
@@ -253,7 +261,7 @@ pub(crate) fn try_full(name: &[u8], first: u32, edition: u16) {
         preamble: 5,
         events: 1024,
         tasks: 16,
-        semaphores: 8,
+        semaphores: if edition == 3 { 1032 } else { 8 },
         cells: 50,
         edition,
     };
@@ -261,5 +269,5 @@ pub(crate) fn try_full(name: &[u8], first: u32, edition: u16) {
     let file = part_of(&bytes, 0, length as usize);
     let r = second::read(file);
     let t = count_in(no_tries(), r.events == 1024 && r.tasks == 16, file);
-    say_tally(name, try_drawn(t, &mut seed, file, 40));
+    say_tally(name, edition, try_drawn(t, &mut seed, file, 40));
 }

@@ -58,10 +58,12 @@ fn try_files(start: u32, one: &[u8], two: &[u8], o: Held, entries: &[u8]) -> u32
 
 // ---- worked recordings
 
-// A to J of document 01; its length.
+// A to J of document 01; K and L are B and C with a flag that one post opens, M is K with one that two
+// open, N K with two flags, and O a flag wait before the post. Its length.
 pub(crate) fn put_worked(file: &mut [u8], name: u8) -> u32 {
     let two = make::empty_shape(2, 1, 1, 1);
     let three = make::empty_shape(3, 1, 1, 1);
+    let flag = make::empty_shape(3, 256, 1, 3);
     match name {
         b'A' => put_recording(file, two, b"", b"0W0 0S0 1P0 1R0"),
         b'B' => put_recording(file, three, b"", b"0W0 0S0 1S0 2P0 2R0"),
@@ -82,11 +84,21 @@ pub(crate) fn put_worked(file: &mut [u8], name: u8) -> u32 {
         ),
         b'H' => put_recording(file, make::empty_shape(2, 0, 0, 1), b"", b"0F1 0J1"),
         b'I' => put_recording(file, make::empty_shape(2, 0, 0, 1), b"", b"0J1"),
+        b'K' => put_recording(file, flag, b"\x01", b"0W0 0O0 1O0 2G0 2R0"),
+        b'L' => put_recording(file, flag, b"\x01", b"1O0 0W0 0O0 2G0 2R0"),
+        b'M' => put_recording(file, flag, b"\x02", b"0W0 0O0 1O0 2G0 2R0"),
+        b'N' => put_recording(
+            file,
+            make::empty_shape(3, 512, 1, 3),
+            b"\x01\x01",
+            b"0W0 0O0 1O0 2G0 2R0",
+        ),
+        b'O' => put_recording(file, flag, b"\x01", b"2G0 0O0"),
         _ => put_recording(file, make::empty_shape(1, 1, 0, 1), b"", b"0P0"),
     }
 }
 
-// Two of A to J: their answer and entries.
+// Two of A to O: their answer and entries.
 fn try_two(start: u32, names: &[u8; 2], o: Held, entries: &[u8]) -> u32 {
     let mut a = [0u8; 400];
     let mut b = [0u8; 400];
@@ -109,7 +121,7 @@ fn try_worked_refused(start: u32, names: &[u8; 2], number: u16) -> u32 {
     try_two(start, names, refused(number, 0), b"")
 }
 
-// Each with itself, and B and C with each other.
+// Each with itself, and B and C, K and L with each other.
 fn try_same_worked(start: u32) -> u32 {
     let mut total = start;
     total = try_worked(total, b"AA", b"");
@@ -121,10 +133,16 @@ fn try_same_worked(start: u32) -> u32 {
     total = try_worked(total, b"EE", b"01321");
     total = try_worked(total, b"FF", b"");
     total = try_worked(total, b"GG", b"03111");
-    try_worked(total, b"HH", b"")
+    total = try_worked(total, b"HH", b"");
+    total = try_worked(total, b"KK", b"01220");
+    total = try_worked(total, b"LL", b"01221");
+    total = try_worked(total, b"KL", b"01221");
+    total = try_worked(total, b"LK", b"01221");
+    try_worked(total, b"MM", b"")
 }
 
-// Some that are not the same work: with the same counts, and with other tasks, semaphores or cells.
+// Some that are not the same work: with the same counts, and with other tasks, semaphores, flags, cells or
+// post counts.
 fn try_other_worked(start: u32) -> u32 {
     let mut total = start;
     total = try_worked_differ(total, b"AF", 0, 1);
@@ -134,7 +152,11 @@ fn try_other_worked(start: u32) -> u32 {
     total = try_worked_differ(total, b"AB", 0, 0);
     total = try_worked_differ(total, b"EB", 0, 0);
     total = try_worked_differ(total, b"AG", 0, 0);
-    try_worked_differ(total, b"GH", 0, 0)
+    total = try_worked_differ(total, b"GH", 0, 0);
+    total = try_worked_differ(total, b"BK", 0, 0);
+    total = try_worked_differ(total, b"KM", 0, 0);
+    total = try_worked_differ(total, b"ML", 0, 0);
+    try_worked_differ(total, b"KN", 0, 0)
 }
 
 // The first file's refusal comes first.
@@ -145,7 +167,9 @@ fn try_refused_worked(start: u32) -> u32 {
     total = try_worked_refused(total, b"IJ", 7);
     total = try_worked_refused(total, b"JI", 8);
     total = try_worked_refused(total, b"IA", 7);
-    try_worked_refused(total, b"AJ", 8)
+    total = try_worked_refused(total, b"AJ", 8);
+    total = try_worked_refused(total, b"OI", 16);
+    try_worked_refused(total, b"KO", 16)
 }
 
 pub(crate) fn try_worked_pairs() {
@@ -252,7 +276,7 @@ pub(crate) fn try_differences() {
     say(b"two recordings, differences", differ);
 }
 
-// ---- counts and start counts
+// ---- counts, start counts and post counts
 
 // B, and B with one count more, both ways round.
 fn try_counted(start: u32, tasks: u16, semaphores: u16, cells: u16) -> u32 {
@@ -263,48 +287,63 @@ fn try_counted(start: u32, tasks: u16, semaphores: u16, cells: u16) -> u32 {
     try_texts(total, z, b"", text, s, b"", text, differ(0, 0), b"")
 }
 
-fn edition_of(starts: &[u8]) -> u16 {
-    if starts.len() == 0 { 1 } else { 2 }
+// Three tasks, two semaphores and one cell: with no level bytes in edition 1, with two in edition 2, and
+// with more in edition 3, for flags.
+fn levelled(n: usize) -> Shape {
+    if n == 0 {
+        return make::empty_shape(3, 2, 1, 1);
+    }
+    if n <= 2 {
+        return make::empty_shape(3, 2, 1, 2);
+    }
+    let flags = ((n - 2) % 64) as u16;
+    make::empty_shape(3, flags * 256 + 2, 1, 3)
 }
 
-// B and another recording, each in edition 1 with no start bytes or in edition 2 with two; both ways round.
-fn try_started(
+// B and another recording, with these level bytes; both ways round.
+fn try_levels(
     start: u32,
-    starts: &[u8],
-    other_starts: &[u8],
+    levels: &[u8],
+    other_levels: &[u8],
     text: &[u8],
     o: Held,
     entries: &[u8],
 ) -> u32 {
-    let s = make::empty_shape(3, 2, 1, edition_of(starts));
-    let z = make::empty_shape(3, 2, 1, edition_of(other_starts));
+    let s = levelled(levels.len());
+    let z = levelled(other_levels.len());
     let b = b"0W0 0S0 1S0 2P0 2R0";
-    let total = try_texts(start, s, starts, b, z, other_starts, text, o, entries);
-    try_texts(total, z, other_starts, text, s, starts, b, o, entries)
+    let total = try_texts(start, s, levels, b, z, other_levels, text, o, entries);
+    try_texts(total, z, other_levels, text, s, levels, b, o, entries)
 }
 
-// B and C with the same start counts.
-fn try_same_starts(start: u32, starts: &[u8], other_starts: &[u8], entries: &[u8]) -> u32 {
+// B and C with the same levels.
+fn try_same_levels(start: u32, levels: &[u8], other_levels: &[u8], entries: &[u8]) -> u32 {
     let c = b"1S0 0W0 0S0 2P0 2R0";
-    try_started(start, starts, other_starts, c, listed(entries), entries)
+    try_levels(start, levels, other_levels, c, listed(entries), entries)
 }
 
-// B and D with other start counts: that their records differ does not matter.
-fn try_other_starts(start: u32, starts: &[u8], other_starts: &[u8]) -> u32 {
+// B and D with other levels: that their records differ does not matter.
+fn try_other_levels(start: u32, levels: &[u8], other_levels: &[u8]) -> u32 {
     let d = b"0W0 0S0 1S0 2P0 2P0 2R0";
-    try_started(start, starts, other_starts, d, differ(0, 0), b"")
+    try_levels(start, levels, other_levels, d, differ(0, 0), b"")
 }
 
-// Other counts, start counts and editions.
+// Other counts, start counts, flags, post counts and editions.
 pub(crate) fn try_counts() {
     let mut total = 0;
     total = try_counted(total, 4, 1, 1);
     total = try_counted(total, 3, 2, 1);
     total = try_counted(total, 3, 1, 2);
-    total = try_same_starts(total, b"", b"\x00\x00", b"01221");
-    total = try_same_starts(total, b"\x00\x07", b"\x00\x07", b"01221");
-    total = try_other_starts(total, b"", b"\x00\x01");
-    total = try_other_starts(total, b"\x01\x00", b"\x00\x01");
-    total = try_other_starts(total, b"\x01\x00", b"\x01\xFF");
+    total = try_same_levels(total, b"", b"\x00\x00", b"01221");
+    total = try_same_levels(total, b"\x00\x07", b"\x00\x07", b"01221");
+    total = try_same_levels(total, b"\x00\x07\x05", b"\x00\x07\x05", b"01221");
+    total = try_other_levels(total, b"", b"\x00\x01");
+    total = try_other_levels(total, b"\x01\x00", b"\x00\x01");
+    total = try_other_levels(total, b"\x01\x00", b"\x01\xFF");
+    total = try_other_levels(total, b"\x00\x00", b"\x00\x00\x01");
+    total = try_other_levels(total, b"\x00\x00\x01", b"\x00\x00\x02");
+    total = try_other_levels(total, b"\x00\x01\x01", b"\x01\x00\x01");
+    total = try_other_levels(total, b"\x00\x00\x01", b"\x00\x00\x01\x01");
+    total = try_other_levels(total, b"\x00\x00\x01\x02", b"\x00\x00\x01\xFF");
     say(b"two recordings, counts", total);
 }

@@ -1,13 +1,20 @@
-// Small recordings in the notation of document 01: each event as its task, a letter and its object;
-// start counts are bytes.
+// Small recordings in the notation of document 01: each event as its task, a letter and its object; O is
+// a post and G a flag wait.
 use crate::bytes::byte;
 use crate::bytes::put_byte;
 use crate::bytes::put_bytes;
 use crate::bytes::up_by;
 use crate::compare;
+use crate::compare::one_more;
 use crate::lines;
+use crate::looks::part_of;
 use crate::make;
 use crate::make::Shape;
+use crate::rows::number;
+use crate::rows::put_words;
+use crate::rows::rest;
+use crate::rows::short;
+use crate::rows::word;
 use crate::tries::count;
 use crate::tries::refused_as;
 use crate::tries::say;
@@ -25,7 +32,9 @@ fn kind_of(letter: u8) -> u8 {
         b'J' => 4,
         b'R' => 5,
         b'W' => 6,
-        b'y' => 7,
+        b'O' => 7,
+        b'G' => 8,
+        b'y' => 9,
         b'z' => 255,
         _ => 0,
     }
@@ -81,121 +90,18 @@ pub(crate) fn put_text(file: &mut [u8], text: &[u8]) -> u32 {
     make::place(0, n)
 }
 
-// Puts a recording of this shape with these start bytes; its length.
-pub(crate) fn put_recording(file: &mut [u8], s: Shape, starts: &[u8], text: &[u8]) -> u32 {
+// Puts a recording of this shape with these level bytes; its length.
+pub(crate) fn put_recording(file: &mut [u8], s: Shape, levels: &[u8], text: &[u8]) -> u32 {
     let at = put_text(file, text);
-    let end = put_bytes(file, at, starts);
+    let end = put_bytes(file, at, levels);
     make::put_trailer(file, end, 0, at / 4, s);
     up_by(end, 16)
 }
 
-// A recording of this shape, and the number and record of its refusal.
-fn try_recording(
-    start: u32,
-    s: Shape,
-    starts: &[u8],
-    number: u16,
-    record: u16,
-    text: &[u8],
-) -> u32 {
-    let mut bytes = [0u8; 400];
-    let length = put_recording(&mut bytes, s, starts, text);
-    if 400 < length {
-        return start;
-    }
-    let file = &bytes[0..length as usize];
-    let total = count(start, refused_as(file, number, record), file);
-    try_whole(total, file)
-}
-
-// A recording with these counts, and the number and record of its refusal.
-fn try_text(
-    start: u32,
-    tasks: u16,
-    semaphores: u16,
-    cells: u16,
-    number: u16,
-    record: u16,
-    text: &[u8],
-) -> u32 {
-    let s = make::empty_shape(tasks, semaphores, cells, 1);
-    try_recording(start, s, b"", number, record, text)
-}
-
-// A recording in edition 2 with two semaphores of these start counts, and the number and record of its
-// refusal.
-fn try_two(start: u32, first: u8, second: u8, number: u16, record: u16, text: &[u8]) -> u32 {
-    let s = make::empty_shape(1, 2, 0, 2);
-    try_recording(start, s, &[first, second], number, record, text)
-}
-
-// A recording in edition 2 with one semaphore of this start count, and the number and record of its
-// refusal.
-fn try_started(
-    start: u32,
-    tasks: u16,
-    cells: u16,
-    first: u8,
-    number: u16,
-    record: u16,
-    text: &[u8],
-) -> u32 {
-    let s = make::empty_shape(tasks, 1, cells, 2);
-    try_recording(start, s, &[first], number, record, text)
-}
-
-// A recording of this shape: with this budget it makes so many passes and lists these entries, a digit
-// for each number.
-fn try_entries(
-    start: u32,
-    s: Shape,
-    starts: &[u8],
-    text: &[u8],
-    budget: u32,
-    passes: u32,
-    entries: &[u8],
-) -> u32 {
-    let mut bytes = [0u8; 400];
-    let length = put_recording(&mut bytes, s, starts, text);
-    if 400 < length {
-        return start;
-    }
-    let file = &bytes[0..length as usize];
-    let total = count(start, compare::lists(file, budget, passes, entries), file);
-    try_whole(total, file)
-}
-
-// A recording in edition 2 with one semaphore of this start count, which settles in so many passes and
-// lists these entries.
-fn try_listed(
-    start: u32,
-    tasks: u16,
-    cells: u16,
-    first: u8,
-    text: &[u8],
-    passes: u32,
-    entries: &[u8],
-) -> u32 {
-    let s = make::empty_shape(tasks, 1, cells, 2);
-    try_entries(start, s, &[first], text, 4294967295, passes, entries)
-}
-
-// A recording in edition 1 with three tasks, one semaphore and two cells: its entries with no pass.
-fn try_unraised(start: u32, text: &[u8], entries: &[u8]) -> u32 {
-    let s = make::empty_shape(3, 1, 2, 1);
-    try_entries(start, s, b"", text, 0, 0, entries)
-}
-
-// The same once it settles, in so many passes.
-fn try_settled(start: u32, text: &[u8], passes: u32, entries: &[u8]) -> u32 {
-    let s = make::empty_shape(3, 1, 2, 1);
-    try_entries(start, s, b"", text, 4294967295, passes, entries)
-}
-
 // A recording of this shape, and what is printed of it.
-fn try_printed(start: u32, s: Shape, starts: &[u8], text: &[u8], printed: &[u8]) -> u32 {
+fn try_printed(start: u32, s: Shape, levels: &[u8], text: &[u8], printed: &[u8]) -> u32 {
     let mut bytes = [0u8; 400];
-    let length = put_recording(&mut bytes, s, starts, text);
+    let length = put_recording(&mut bytes, s, levels, text);
     if 400 < length {
         return start;
     }
@@ -203,228 +109,277 @@ fn try_printed(start: u32, s: Shape, starts: &[u8], text: &[u8], printed: &[u8])
     count(start, lines::prints(file, printed), file)
 }
 
-// A to J of document 01.
-pub(crate) fn try_worked() {
-    let mut total = 0;
-    // A
-    total = try_text(total, 2, 1, 1, 0, 0, b"0W0 0S0 1P0 1R0");
-    // B
-    total = try_text(total, 3, 1, 1, 0, 0, b"0W0 0S0 1S0 2P0 2R0");
-    // C
-    total = try_text(total, 3, 1, 1, 0, 0, b"1S0 0W0 0S0 2P0 2R0");
-    // D
-    total = try_text(total, 3, 1, 1, 0, 0, b"0W0 0S0 1S0 2P0 2P0 2R0");
-    // E
-    total = try_text(total, 4, 1, 1, 0, 0, b"0W0 0S0 1S0 2P0 3P0 3R0");
-    // F
-    total = try_text(total, 2, 1, 1, 0, 0, b"1W0 1S0 0P0 0S0 0R0");
-    // G
-    total = try_text(total, 2, 0, 1, 0, 0, b"0W0 0F1 1W0 0R0 0J1 0W0");
-    // H
-    total = try_text(total, 2, 0, 0, 0, 0, b"0F1 0J1");
-    // I
-    total = try_text(total, 2, 0, 0, 7, 0, b"0J1");
-    // J
-    total = try_text(total, 1, 1, 0, 8, 0, b"0P0");
-    say(b"worked", total);
+// ---- rows: tasks, semaphores, flags, cells, edition, and a number for each level byte; then either `refused`
+// with a number, 0 for none, and a record, or `lists` with passes, 0 for no budget, and entries, a digit
+// for each number; then the events
+
+fn shape_of(row: &[u8]) -> Shape {
+    let field = short(row, 1) % 256 + short(row, 2) % 256 * 256;
+    make::empty_shape(short(row, 0), field, short(row, 3), short(row, 4))
 }
 
-// Kinds from 1 to 6, and names below their counts.
-pub(crate) fn try_names() {
+// Whether the file answers what the row says from word k on.
+fn answers(row: &[u8], k: u16, file: &[u8]) -> bool {
+    let first = k % 1024 + 1;
+    if byte(word(row, k), 0) == b'l' {
+        let passes = number(row, first);
+        let budget = if passes == 0 { 0 } else { 4294967295 };
+        return compare::lists(file, budget, passes, word(row, first + 1));
+    }
+    refused_as(file, short(row, first), short(row, first + 1))
+}
+
+fn try_row(start: u32, row: &[u8]) -> u32 {
+    let mut levels = [0u8; 8];
+    let mut bytes = [0u8; 400];
+    let s = shape_of(row);
+    let n = make::levels_in(s) % 1024;
+    put_words(row, 5, n, &mut levels);
+    let length = put_recording(
+        &mut bytes,
+        s,
+        part_of(&levels, 0, n as usize),
+        rest(row, n + 8),
+    );
+    let file = part_of(&bytes, 0, length as usize);
+    try_whole(count(start, answers(row, n + 5, file), file), file)
+}
+
+fn try_rows(name: &[u8], table: &[u8]) {
     let mut total = 0;
-    // kind 0
-    total = try_text(total, 1, 1, 1, 5, 0, b"0x0");
-    // kind 7
-    total = try_text(total, 1, 1, 1, 5, 0, b"0y0");
-    // kind 7 in record 1
-    total = try_text(total, 1, 1, 1, 5, 1, b"0W0 0y0");
-    // kind 255, task and object beyond
-    total = try_text(total, 1, 1, 1, 5, 0, b"9z9");
-    // task 2 of 2
-    total = try_text(total, 2, 1, 1, 6, 0, b"2W0");
-    // task 1 of 2
-    total = try_text(total, 2, 1, 1, 0, 0, b"1W0");
-    // semaphore 2 of 2
-    total = try_text(total, 1, 2, 1, 6, 0, b"0S2");
-    // semaphore 1 of 2
-    total = try_text(total, 1, 2, 1, 0, 0, b"0S1");
-    // no semaphore
-    total = try_text(total, 1, 0, 1, 6, 0, b"0S0");
-    // wait on semaphore 2 of 2
-    total = try_text(total, 1, 2, 1, 6, 0, b"0P2");
-    // fork of task 2 of 2
-    total = try_text(total, 2, 0, 0, 6, 0, b"0F2");
-    // fork of task 1 of 2
-    total = try_text(total, 2, 0, 0, 0, 0, b"0F1");
-    // join of task 2 of 2
-    total = try_text(total, 2, 0, 0, 6, 0, b"0J2");
-    // cell 2 of 2
-    total = try_text(total, 1, 0, 2, 6, 0, b"0R2");
-    // cell 1 of 2
-    total = try_text(total, 1, 0, 2, 0, 0, b"0R1");
-    // write of cell 2 of 2
-    total = try_text(total, 1, 0, 2, 6, 0, b"0W2");
-    // no cell
-    total = try_text(total, 1, 1, 0, 6, 0, b"0W0");
-    say(b"kinds and names", total);
+    let mut from = 0;
+    for i in 0..table.len() {
+        if byte(table, i) == b';' {
+            total = try_row(total, part_of(table, from, i));
+            from = one_more(i);
+        }
+    }
+    say(name, total);
+}
+
+// A to J of document 01.
+pub(crate) fn try_worked() {
+    try_rows(
+        b"worked",
+        b"A: 2 1 0 1 1 refused 0 0 0W0 0S0 1P0 1R0;\
+        B: 3 1 0 1 1 refused 0 0 0W0 0S0 1S0 2P0 2R0;\
+        C: 3 1 0 1 1 refused 0 0 1S0 0W0 0S0 2P0 2R0;\
+        D: 3 1 0 1 1 refused 0 0 0W0 0S0 1S0 2P0 2P0 2R0;\
+        E: 4 1 0 1 1 refused 0 0 0W0 0S0 1S0 2P0 3P0 3R0;\
+        F: 2 1 0 1 1 refused 0 0 1W0 1S0 0P0 0S0 0R0;\
+        G: 2 0 0 1 1 refused 0 0 0W0 0F1 1W0 0R0 0J1 0W0;\
+        H: 2 0 0 0 1 refused 0 0 0F1 0J1;\
+        I: 2 0 0 0 1 refused 7 0 0J1;\
+        J: 1 1 0 0 1 refused 8 0 0P0;",
+    );
+}
+
+// Kinds of each edition, and names below their counts.
+pub(crate) fn try_names() {
+    try_rows(
+        b"kinds and names",
+        b"kind 0: 1 1 0 1 1 refused 5 0 0x0;\
+        kind 7 in edition 1: 1 1 0 1 1 refused 5 0 0O0;\
+        kind 7 in record 1: 1 1 0 1 1 refused 5 1 0W0 0O0;\
+        kind 255, task and object beyond: 1 1 0 1 1 refused 5 0 9z9;\
+        task 2 of 2: 2 1 0 1 1 refused 6 0 2W0;\
+        task 1 of 2: 2 1 0 1 1 refused 0 0 1W0;\
+        semaphore 2 of 2: 1 2 0 1 1 refused 6 0 0S2;\
+        semaphore 1 of 2: 1 2 0 1 1 refused 0 0 0S1;\
+        no semaphore: 1 0 0 1 1 refused 6 0 0S0;\
+        wait on semaphore 2 of 2: 1 2 0 1 1 refused 6 0 0P2;\
+        fork of task 2 of 2: 2 0 0 0 1 refused 6 0 0F2;\
+        fork of task 1 of 2: 2 0 0 0 1 refused 0 0 0F1;\
+        join of task 2 of 2: 2 0 0 0 1 refused 6 0 0J2;\
+        cell 2 of 2: 1 0 0 2 1 refused 6 0 0R2;\
+        cell 1 of 2: 1 0 0 2 1 refused 0 0 0R1;\
+        write of cell 2 of 2: 1 0 0 2 1 refused 6 0 0W2;\
+        no cell: 1 1 0 0 1 refused 6 0 0W0;\
+        kind 8 in edition 1: 1 1 0 1 1 refused 5 0 0G0;\
+        kind 7 in edition 2: 1 1 0 1 2 1 refused 5 0 0O0;\
+        kind 8 in edition 2: 1 1 0 1 2 1 refused 5 0 0G0;\
+        kind 9 in edition 3: 1 1 1 1 3 1 1 refused 5 0 0y0;\
+        kind 9 in record 1: 1 1 1 1 3 1 1 refused 5 1 0O0 0y0;\
+        post on flag 2 of 2: 1 0 2 1 3 1 1 refused 6 0 0O2;\
+        post on flag 1 of 2: 1 0 2 1 3 1 1 refused 0 0 0O1;\
+        flag wait on flag 1 of 1: 1 2 1 1 3 0 0 1 refused 6 1 0O0 0G1;\
+        no flag: 1 2 0 1 3 0 0 refused 6 0 0O0;\
+        no semaphore, one flag: 1 0 1 1 3 1 refused 6 0 0S0;\
+        semaphore 1 of 1, two flags: 1 1 2 1 3 0 1 1 refused 6 0 0S1;",
+    );
 }
 
 // The first three rules.
 pub(crate) fn try_lives() {
-    let mut total = 0;
-    // a joined task goes on
-    total = try_text(total, 2, 0, 1, 7, 3, b"0F1 1W0 0J1 1W0");
-    // fork of itself
-    total = try_text(total, 2, 0, 0, 7, 0, b"0F0");
-    // forked twice
-    total = try_text(total, 2, 0, 0, 7, 1, b"0F1 0F1");
-    // fork after a record
-    total = try_text(total, 2, 0, 1, 7, 1, b"1W0 0F1");
-    // fork after a record, and again
-    total = try_text(total, 2, 0, 1, 7, 2, b"0F1 1W0 0F1");
-    // join of itself
-    total = try_text(total, 2, 0, 0, 7, 0, b"0J0");
-    // joined twice
-    total = try_text(total, 2, 0, 0, 7, 2, b"0F1 0J1 0J1");
-    // join by another task
-    total = try_text(total, 3, 0, 0, 0, 0, b"0F1 2J1");
-    // a joined task joins
-    total = try_text(total, 3, 0, 0, 7, 3, b"0F1 0F2 0J1 1J2");
-    // life before wait
-    total = try_text(total, 2, 1, 0, 7, 2, b"0F1 0J1 1P0");
-    // name before life
-    total = try_text(total, 2, 0, 1, 6, 2, b"0F1 0J1 1W1");
-    say(b"lives", total);
+    try_rows(
+        b"lives",
+        b"a joined task goes on: 2 0 0 1 1 refused 7 3 0F1 1W0 0J1 1W0;\
+        fork of itself: 2 0 0 0 1 refused 7 0 0F0;\
+        forked twice: 2 0 0 0 1 refused 7 1 0F1 0F1;\
+        fork after a record: 2 0 0 1 1 refused 7 1 1W0 0F1;\
+        fork after a record, and again: 2 0 0 1 1 refused 7 2 0F1 1W0 0F1;\
+        join of itself: 2 0 0 0 1 refused 7 0 0J0;\
+        joined twice: 2 0 0 0 1 refused 7 2 0F1 0J1 0J1;\
+        join by another task: 3 0 0 0 1 refused 0 0 0F1 2J1;\
+        a joined task joins: 3 0 0 0 1 refused 7 3 0F1 0F2 0J1 1J2;\
+        life before wait: 2 1 0 0 1 refused 7 2 0F1 0J1 1P0;\
+        name before life: 2 0 0 1 1 refused 6 2 0F1 0J1 1W1;\
+        life before flag: 2 0 1 0 3 1 refused 7 2 0F1 0J1 1G0;\
+        a joined task posts: 2 0 1 0 3 1 refused 7 3 0F1 1O0 0J1 1O0;",
+    );
 }
 
 // The wait rule, the first faulty record, and runs of several passes.
 pub(crate) fn try_waits() {
-    let mut total = 0;
-    // a signal and a wait, no cell
-    total = try_text(total, 1, 1, 0, 0, 0, b"0S0 0P0");
-    // two waits for one signal
-    total = try_text(total, 1, 1, 0, 8, 2, b"0S0 0P0 0P0");
-    // signal on another semaphore
-    total = try_text(total, 1, 2, 0, 8, 1, b"0S0 0P1");
-    // wait before signal
-    total = try_text(total, 1, 1, 0, 8, 0, b"0P0 0S0");
-    // first faulty record
-    total = try_text(total, 1, 1, 0, 8, 0, b"0P0 0z0");
-    // seven passes
-    total = try_text(
-        total,
-        2,
-        1,
-        0,
-        0,
-        0,
-        b"1S0 0P0 0S0 0P0 0S0 0P0 0S0 0P0 0S0 0P0 0S0 0S0 1P0 1P0",
+    try_rows(
+        b"waits",
+        b"a signal and a wait, no cell: 1 1 0 0 1 refused 0 0 0S0 0P0;\
+        two waits for one signal: 1 1 0 0 1 refused 8 2 0S0 0P0 0P0;\
+        signal on another semaphore: 1 2 0 0 1 refused 8 1 0S0 0P1;\
+        wait before signal: 1 1 0 0 1 refused 8 0 0P0 0S0;\
+        first faulty record: 1 1 0 0 1 refused 8 0 0P0 0z0;\
+        seven passes: 2 1 0 0 1 refused 0 0 \
+        1S0 0P0 0S0 0P0 0S0 0P0 0S0 0P0 0S0 0P0 0S0 0S0 1P0 1P0;\
+        a fork after a write, two signals: 3 1 0 1 1 refused 0 0 0W0 0F1 1S0 2P0 1S0;",
     );
-    // a fork after a write, two signals
-    total = try_text(total, 3, 1, 1, 0, 0, b"0W0 0F1 1S0 2P0 1S0");
-    say(b"waits", total);
 }
 
 // Which events conflict, and the order of the entries.
 pub(crate) fn try_pairs() {
-    let mut total = 0;
-    // a read before a write
-    total = try_text(total, 2, 0, 1, 0, 0, b"0R0 1W0");
-    // two reads
-    total = try_text(total, 2, 0, 1, 0, 0, b"0R0 1R0");
-    // one task
-    total = try_text(total, 1, 0, 1, 0, 0, b"0R0 0W0");
-    // two cells
-    total = try_text(total, 2, 0, 2, 0, 0, b"0W0 1W1");
-    // by cell, then lower task, then higher task
-    total = try_text(total, 3, 0, 2, 0, 0, b"0W1 0W0 1W0 1W1 2R0 2R1");
-    // before a fork, between fork and join, after the join
-    total = try_text(total, 2, 0, 1, 0, 0, b"0R0 0F1 1W0 0R0 0J1 0R0");
-    say(b"pairs", total);
+    try_rows(
+        b"pairs",
+        b"a read before a write: 2 0 0 1 1 refused 0 0 0R0 1W0;\
+        two reads: 2 0 0 1 1 refused 0 0 0R0 1R0;\
+        one task: 1 0 0 1 1 refused 0 0 0R0 0W0;\
+        two cells: 2 0 0 2 1 refused 0 0 0W0 1W1;\
+        by cell, lower task, higher task: 3 0 0 2 1 refused 0 0 0W1 0W0 1W0 1W1 2R0 2R1;\
+        before a fork, between fork and join, after the join: 2 0 0 1 1 refused 0 0 \
+        0R0 0F1 1W0 0R0 0J1 0R0;\
+        posts, flag waits and accesses of the number 0: 3 0 1 1 3 1 lists 2 021 \
+        0W0 1O0 2W0 2G0;",
+    );
 }
 
 // The rows of request 2, and recordings in which tasks and records go in different orders.
 pub(crate) fn try_task_order() {
-    let mut total = 0;
-    // the events of G
-    let g = b"0W0 0F1 1W0 0R0 0J1 0W0";
-    total = try_unraised(total, g, b"020321520");
-    total = try_settled(total, g, 2, b"321");
-    // the last task first
-    total = try_settled(total, b"2W0 1W0 0W0", 1, b"211201101");
-    // accesses of one task between those of others
-    let between = b"1W0 0W0 1R0 2W0 0R0 1W0";
-    total = try_settled(total, between, 1, b"101121151131401451431031231531");
-    // two cells in turn, the higher first
-    total = try_settled(total, b"1W1 0W0 1R0 0W1 1W0 0R1", 1, b"121141301501");
-    // the lower task follows the higher, in this run and in every run
-    let follows = b"1W0 1S0 0P0 0S0 0R0";
-    total = try_unraised(total, follows, b"400");
-    total = try_settled(total, follows, 2, b"");
-    // the lower task follows one of two higher ones in this run
-    total = try_settled(total, b"2W0 2S0 1W0 1S0 0P0 0R0", 1, b"521500201");
-    say(b"task order", total);
+    try_rows(
+        b"task order",
+        b"the events of G, no pass: 3 1 0 2 1 lists 0 020321520 0W0 0F1 1W0 0R0 0J1 0W0;\
+        the events of G: 3 1 0 2 1 lists 2 321 0W0 0F1 1W0 0R0 0J1 0W0;\
+        the last task first: 3 1 0 2 1 lists 1 211201101 2W0 1W0 0W0;\
+        accesses of one task between those of others: 3 1 0 2 1 lists 1 \
+        101121151131401451431031231531 1W0 0W0 1R0 2W0 0R0 1W0;\
+        two cells in turn, the higher first: 3 1 0 2 1 lists 1 121141301501 \
+        1W1 0W0 1R0 0W1 1W0 0R1;\
+        the lower task follows the higher in this run: 3 1 0 2 1 lists 0 400 1W0 1S0 0P0 0S0 0R0;\
+        and in every run: 3 1 0 2 1 lists 2 - 1W0 1S0 0P0 0S0 0R0;\
+        the lower task follows one of two higher ones in this run: 3 1 0 2 1 lists 1 521500201 \
+        2W0 2S0 1W0 1S0 0P0 0R0;",
+    );
 }
 
 // One job with a hand-over, in four orders of its records: the same entries by task and position.
 pub(crate) fn try_recorded_orders() {
-    let mut total = 0;
-    total = try_settled(total, b"0W0 0S0 1P0 1R0 2W0", 2, b"041341");
-    total = try_settled(total, b"0W0 0S0 2W0 1P0 1R0", 2, b"021421");
-    total = try_settled(total, b"0W0 2W0 0S0 1P0 1R0", 2, b"011411");
-    total = try_settled(total, b"2W0 0W0 0S0 1P0 1R0", 2, b"101401");
-    say(b"recorded orders", total);
+    try_rows(
+        b"recorded orders",
+        b"task 2 last: 3 1 0 2 1 lists 2 041341 0W0 0S0 1P0 1R0 2W0;\
+        before the wait: 3 1 0 2 1 lists 2 021421 0W0 0S0 2W0 1P0 1R0;\
+        before the signal: 3 1 0 2 1 lists 2 011411 0W0 2W0 0S0 1P0 1R0;\
+        first: 3 1 0 2 1 lists 2 101401 2W0 0W0 0S0 1P0 1R0;",
+    );
 }
 
 // The rows of request 1, and B, D and F with a start count of 0.
 pub(crate) fn try_start_rows() {
-    let mut total = 0;
-    total = try_listed(total, 2, 1, 0, b"0W0 0S0 1P0 1R0", 2, b"");
-    total = try_listed(total, 2, 1, 1, b"0W0 0S0 1P0 1R0", 1, b"031");
-    total = try_listed(total, 2, 1, 1, b"0W0 0S0 1P0 1P0 1R0", 2, b"");
-    total = try_listed(total, 3, 1, 1, b"0W0 0S0 1S0 2P0 2P0 2R0", 1, b"050");
-    total = try_started(total, 1, 0, 1, 0, 0, b"0P0");
-    total = try_started(total, 1, 0, 1, 8, 1, b"0P0 0P0");
-    total = try_listed(total, 3, 1, 0, b"0W0 0S0 1S0 2P0 2R0", 1, b"040");
-    total = try_listed(total, 3, 1, 0, b"0W0 0S0 1S0 2P0 2P0 2R0", 2, b"");
-    total = try_listed(total, 2, 1, 0, b"1W0 1S0 0P0 0S0 0R0", 2, b"");
-    say(b"start rows", total);
+    try_rows(
+        b"start rows",
+        b"A, 0: 2 1 0 1 2 0 lists 2 - 0W0 0S0 1P0 1R0;\
+        A, 1: 2 1 0 1 2 1 lists 1 031 0W0 0S0 1P0 1R0;\
+        a second wait: 2 1 0 1 2 1 lists 2 - 0W0 0S0 1P0 1P0 1R0;\
+        D, 1: 3 1 0 1 2 1 lists 1 050 0W0 0S0 1S0 2P0 2P0 2R0;\
+        one wait: 1 1 0 0 2 1 refused 0 0 0P0;\
+        two waits: 1 1 0 0 2 1 refused 8 1 0P0 0P0;\
+        B, 0: 3 1 0 1 2 0 lists 1 040 0W0 0S0 1S0 2P0 2R0;\
+        D, 0: 3 1 0 1 2 0 lists 2 - 0W0 0S0 1S0 2P0 2P0 2R0;\
+        F, 0: 2 1 0 1 2 0 lists 2 - 1W0 1S0 0P0 0S0 0R0;",
+    );
 }
 
 // The wait rule with a start count.
 pub(crate) fn try_start_waits() {
-    let mut total = 0;
-    total = try_started(total, 1, 0, 0, 8, 0, b"0P0");
-    // a pool of four
-    total = try_started(total, 1, 0, 4, 0, 0, b"0P0 0P0 0P0 0P0");
-    total = try_started(total, 1, 0, 4, 8, 4, b"0P0 0P0 0P0 0P0 0P0");
-    total = try_started(total, 1, 0, 255, 0, 0, b"0P0 0P0 0S0 0P0");
-    // one more by a signal, before or between
-    total = try_started(total, 1, 0, 1, 0, 0, b"0S0 0P0 0P0");
-    total = try_started(total, 1, 0, 1, 8, 3, b"0P0 0S0 0P0 0P0");
-    // the other semaphore's start count
-    total = try_two(total, 0, 4, 8, 1, b"0P1 0P0");
-    total = try_two(total, 4, 0, 8, 1, b"0P0 0P1");
-    total = try_two(total, 0, 1, 0, 0, b"0P1");
-    // kind, name and life before the wait rule
-    total = try_started(total, 1, 1, 1, 5, 1, b"0W0 0y0 0P0");
-    total = try_started(total, 2, 1, 1, 6, 0, b"0P1");
-    total = try_started(total, 2, 0, 0, 7, 2, b"0F1 0J1 1P0");
-    say(b"start counts", total);
+    try_rows(
+        b"start counts",
+        b"none: 1 1 0 0 2 0 refused 8 0 0P0;\
+        a pool of four: 1 1 0 0 2 4 refused 0 0 0P0 0P0 0P0 0P0;\
+        and a fifth wait: 1 1 0 0 2 4 refused 8 4 0P0 0P0 0P0 0P0 0P0;\
+        the largest: 1 1 0 0 2 255 refused 0 0 0P0 0P0 0S0 0P0;\
+        one more by a signal before: 1 1 0 0 2 1 refused 0 0 0S0 0P0 0P0;\
+        one more by a signal between: 1 1 0 0 2 1 refused 8 3 0P0 0S0 0P0 0P0;\
+        the other semaphore's start count: 1 2 0 0 2 0 4 refused 8 1 0P1 0P0;\
+        the first one's: 1 2 0 0 2 4 0 refused 8 1 0P0 0P1;\
+        the second one's: 1 2 0 0 2 0 1 refused 0 0 0P1;\
+        kind before the wait rule: 1 1 0 1 2 1 refused 5 1 0W0 0y0 0P0;\
+        name before the wait rule: 2 1 0 1 2 1 refused 6 0 0P1;\
+        life before the wait rule: 2 1 0 0 2 0 refused 7 2 0F1 0J1 1P0;\
+        a pool of four beside a flag: 1 1 1 0 3 4 1 refused 8 5 0P0 0P0 0O0 0P0 0P0 0P0;\
+        the post count is no start count: 1 1 1 0 3 0 4 refused 8 0 0P0;",
+    );
 }
 
 // The first waits have no signal, and later ones match from the first signal on.
 pub(crate) fn try_start_matches() {
-    let mut total = 0;
-    // a pool of four, the fifth wait behind a signal
-    total = try_started(total, 2, 0, 4, 0, 0, b"0P0 0P0 1P0 0P0 1S0 0P0");
-    // the second wait takes the first signal
-    total = try_started(total, 3, 1, 1, 0, 0, b"0W0 0S0 1P0 2P0 2R0");
-    // and the third the second
-    total = try_started(total, 4, 2, 1, 0, 0, b"0W0 0S0 1W1 1S0 2P0 2P0 2R0 3P0 3R1");
-    // waits of another task, ordered by a fork
-    total = try_started(total, 3, 1, 2, 0, 0, b"0W0 0S0 1P0 1P0 1F2 2P0 2R0");
-    say(b"start matches", total);
+    try_rows(
+        b"start matches",
+        b"a pool of four, the fifth wait behind a signal: 2 1 0 0 2 4 refused 0 0 \
+        0P0 0P0 1P0 0P0 1S0 0P0;\
+        the second wait takes the first signal: 3 1 0 1 2 1 refused 0 0 0W0 0S0 1P0 2P0 2R0;\
+        and the third the second: 4 1 0 2 2 1 refused 0 0 \
+        0W0 0S0 1W1 1S0 2P0 2P0 2R0 3P0 3R1;\
+        waits of another task, ordered by a fork: 3 1 0 1 2 2 refused 0 0 \
+        0W0 0S0 1P0 1P0 1F2 2P0 2R0;",
+    );
+}
+
+// The flag rule.
+pub(crate) fn try_flags() {
+    try_rows(
+        b"flags",
+        b"a post and a flag wait: 2 0 1 0 3 1 refused 0 0 0O0 1G0;\
+        too few posts: 2 0 1 0 3 2 refused 16 1 0O0 1G0;\
+        before any post: 2 0 1 0 3 1 refused 16 0 1G0 0O0;\
+        two flag waits after one post: 3 0 1 0 3 1 refused 0 0 0O0 1G0 2G0 1G0;\
+        before the second post: 2 0 1 0 3 2 refused 16 1 0O0 1G0 0O0;\
+        after the second post: 2 0 1 0 3 2 refused 0 0 0O0 0O0 1G0 1G0 0O0;\
+        the largest: 2 0 1 0 3 255 refused 16 3 0O0 0O0 0O0 1G0;\
+        posts on another flag: 2 0 2 0 3 1 1 refused 16 1 0O0 1G1;\
+        the other flag's post count: 2 0 2 0 3 2 1 refused 16 3 0O0 0O1 1G1 1G0;\
+        a post is no signal: 2 1 1 0 3 0 1 refused 8 1 0O0 1P0;\
+        a signal is no post: 2 1 1 0 3 0 1 refused 16 1 0S0 1G0;\
+        the first faulty record: 2 1 1 1 3 0 1 refused 16 1 0W0 1G0 1P0;\
+        a post count of 0: 2 0 1 0 3 0 refused 4 0 0O0 1G0;\
+        of the second flag: 2 1 2 0 3 0 1 0 refused 4 0 0O0 1G0;\
+        before a faulty record: 2 0 1 0 3 0 refused 4 0 0x0;\
+        a start count of 0: 2 1 1 0 3 0 1 refused 0 0 0O0 1G0;",
+    );
+}
+
+// The rows of request 6, and what a flag wait follows.
+pub(crate) fn try_flag_rows() {
+    try_rows(
+        b"flag rows",
+        b"one post: 2 0 1 1 3 1 lists 2 - 0W0 0O0 1G0 1R0;\
+        one of two: 3 0 1 1 3 1 lists 1 040 0W0 0O0 2O0 1G0 1R0;\
+        both: 3 0 1 1 3 2 lists 2 - 0W0 0O0 2O0 1G0 1R0;\
+        the first post is the other task's: 3 0 1 1 3 1 lists 1 141 1O0 0W0 0O0 2G0 2R0;\
+        a post after the flag wait: 3 0 1 1 3 1 lists 1 030 0W0 0O0 1G0 1R0 2O0;\
+        by the task that waits: 2 0 1 1 3 1 lists 2 - 0W0 0O0 1G0 1O0 1R0;\
+        two of three: 4 0 1 1 3 2 lists 1 050 0W0 0O0 1O0 2O0 3G0 3R0;\
+        two posts of one task: 3 0 1 1 3 2 lists 2 - 0W0 0O0 0O0 1G0 1R0 2O0;\
+        two flag waits: 3 0 1 1 3 1 lists 2 541 0W0 0O0 1G0 2G0 2W0 1R0;\
+        a semaphore and a flag: 3 1 1 1 3 0 1 lists 2 - 0W0 0S0 1P0 1O0 2G0 2R0;\
+        a start count and a flag: 3 1 1 1 3 1 1 lists 2 051 0W0 0S0 1P0 1O0 2G0 2R0;\
+        a later pass: 3 1 1 1 3 0 1 lists 3 - 0W0 0O0 1G0 1R0 1S0 2P0 2O0;",
+    );
 }
 
 // A recording in edition 2 with one semaphore and one cell, and what is printed of it.
@@ -466,6 +421,17 @@ pub(crate) fn try_prints() {
     total = try_start_printed(total, 1, 1, b"0P0 0P0", b"refused 8 1\n");
     total = try_refused_line(total, 1, b"refused 8 0\n");
     total = try_refused_line(total, 2, b"refused 3 0\n");
-    total = try_refused_line(total, 3, b"refused 2 0\n");
+    total = try_refused_line(total, 3, b"refused 3 0\n");
+    total = try_refused_line(total, 4, b"refused 2 0\n");
+    let flag = make::empty_shape(2, 256, 1, 3);
+    total = try_printed(total, flag, b"\x02", b"0O0 1G0", b"refused 16 1\n");
+    total = try_printed(total, flag, b"\x00", b"0O0 1G0", b"refused 4 0\n");
+    total = try_printed(
+        total,
+        flag,
+        b"\x01",
+        b"0W0 0O0 1G0 1R0",
+        b"events 4 tasks 2 passes 2 settled yes pairs 0\n",
+    );
     say(b"printed", total);
 }

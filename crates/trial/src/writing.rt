@@ -3,12 +3,14 @@
 use crate::bytes::all_byte_marks;
 use crate::bytes::fill_bytes;
 use crate::bytes::same_bytes;
+use crate::compare::field_of;
 use crate::compare::one_less;
 use crate::compare::one_more;
 use crate::compare::reading_agrees;
 use crate::compare::same_part;
 use crate::compare::same_refusal;
 use crate::compare::some_more;
+use crate::looks::part_of;
 use model::Counts;
 use model::Written;
 
@@ -28,7 +30,14 @@ pub(crate) fn same_written(written: Written, o: second::Sent) -> bool {
 }
 
 // The second analyser's writing.
-fn send(records: &[u8], c: Counts, starts: &[u8], room: usize, out: &mut [u8]) -> second::Sent {
+fn send(
+    records: &[u8],
+    c: Counts,
+    starts: &[u8],
+    posts: &[u8],
+    room: usize,
+    out: &mut [u8],
+) -> second::Sent {
     second::write(
         records,
         c.tasks,
@@ -36,13 +45,14 @@ fn send(records: &[u8], c: Counts, starts: &[u8], room: usize, out: &mut [u8]) -
         c.cells,
         c.edition,
         starts,
+        posts,
         room,
         out,
     )
 }
 
 // The library's writing.
-fn write(records: &[u8], c: Counts, starts: &[u8], out: &mut [u8]) -> Written {
+fn write(records: &[u8], c: Counts, starts: &[u8], posts: &[u8], out: &mut [u8]) -> Written {
     recording::write(
         records,
         c.tasks,
@@ -50,6 +60,7 @@ fn write(records: &[u8], c: Counts, starts: &[u8], out: &mut [u8]) -> Written {
         c.cells,
         c.edition,
         starts,
+        posts,
         out,
     )
 }
@@ -60,35 +71,43 @@ fn same_file(written: Written, o: second::Sent, out: &[u8], other: &[u8]) -> boo
     same_written(written, o) && same_bytes(out, other, n) && all_byte_marks(out, n, MARK)
 }
 
-fn lent_writing(records: &[u8], c: Counts, starts: &[u8], out: &mut [u8]) -> Outcome {
+fn lent_writing(records: &[u8], c: Counts, starts: &[u8], posts: &[u8], out: &mut [u8]) -> Outcome {
     let mut other = [0u8; 8192];
-    let o = send(records, c, starts, out.len(), &mut other);
-    let written = write(records, c, starts, out);
+    let o = send(records, c, starts, posts, out.len(), &mut other);
+    let written = write(records, c, starts, posts, out);
     Outcome {
         agrees: same_file(written, o, out, &other),
         length: o.length,
     }
 }
 
-fn part_writing(records: &[u8], c: Counts, starts: &[u8], room: usize, out: &mut [u8]) -> Outcome {
+fn part_writing(
+    records: &[u8],
+    c: Counts,
+    starts: &[u8],
+    posts: &[u8],
+    room: usize,
+    out: &mut [u8],
+) -> Outcome {
     if out.len() < room {
         return Outcome {
             agrees: false,
             length: 0,
         };
     }
-    lent_writing(records, c, starts, &mut out[0..room])
+    lent_writing(records, c, starts, posts, &mut out[0..room])
 }
 
 pub(crate) fn same_counts(r: second::Reading, c: Counts) -> bool {
     r.tasks == c.tasks
-        && r.semaphores == c.semaphores
+        && field_of(r) == c.semaphores
         && r.cells == c.cells
         && r.edition == c.edition
 }
 
-// Reading what was written gives the same records, start bytes and counts, at the start of the file.
-fn read_back(file: &[u8], records: &[u8], c: Counts, starts: &[u8]) -> bool {
+// Reading what was written gives the same records, start bytes, post bytes and counts, at the start of
+// the file.
+fn read_back(file: &[u8], records: &[u8], c: Counts, starts: &[u8], posts: &[u8]) -> bool {
     let r = second::read(file);
     reading_agrees(file)
         && r.refusal == 0
@@ -96,13 +115,20 @@ fn read_back(file: &[u8], records: &[u8], c: Counts, starts: &[u8]) -> bool {
         && same_counts(r, c)
         && same_part(recording::records(file), records, records.len())
         && same_part(recording::starts(file), starts, starts.len())
+        && same_part(recording::posts(file), posts, posts.len())
 }
 
 // Writing, with this size of lent output. Where a whole file was written, it is read back.
-pub(crate) fn writing_agrees(records: &[u8], c: Counts, starts: &[u8], room: usize) -> bool {
+pub(crate) fn writing_agrees(
+    records: &[u8],
+    c: Counts,
+    starts: &[u8],
+    posts: &[u8],
+    room: usize,
+) -> bool {
     let mut out = [0u8; 8192];
     fill_bytes(&mut out, MARK);
-    let outcome = part_writing(records, c, starts, room, &mut out);
+    let outcome = part_writing(records, c, starts, posts, room, &mut out);
     let n = outcome.length;
     if n == 0 {
         return outcome.agrees;
@@ -110,7 +136,7 @@ pub(crate) fn writing_agrees(records: &[u8], c: Counts, starts: &[u8], room: usi
     if 8192 < n {
         return false;
     }
-    outcome.agrees && read_back(&out[0..n], records, c, starts)
+    outcome.agrees && read_back(&out[0..n], records, c, starts, posts)
 }
 
 // With this size of lent output, writing is refused with this number; 0 for none.
@@ -118,21 +144,41 @@ pub(crate) fn written_as(
     records: &[u8],
     c: Counts,
     starts: &[u8],
+    posts: &[u8],
     room: usize,
     number: u16,
 ) -> bool {
     let mut out = [0u8; 8192];
-    let o = send(records, c, starts, room, &mut out);
-    o.refusal == number && writing_agrees(records, c, starts, room)
+    let o = send(records, c, starts, posts, room, &mut out);
+    o.refusal == number && writing_agrees(records, c, starts, posts, room)
+}
+
+// Level bytes as start bytes and post bytes: in edition 3 there are as many start bytes as the low byte of
+// the field says, and before that no post bytes.
+fn levels_agree(records: &[u8], c: Counts, levels: &[u8]) -> bool {
+    let all = levels.len();
+    let low = c.semaphores as usize % 256;
+    let n = if c.edition == 3 && low < all {
+        low
+    } else {
+        all
+    };
+    writing_agrees(
+        records,
+        c,
+        part_of(levels, 0, n),
+        part_of(levels, n, all),
+        8192,
+    )
 }
 
 // The bytes between preamble and trailer, all as records, and the first of them as records and the
-// others as start bytes.
+// others as level bytes.
 fn split_agrees(bytes: &[u8], size: usize, c: Counts) -> bool {
     if bytes.len() < size {
-        return writing_agrees(bytes, c, b"", 8192);
+        return levels_agree(bytes, c, b"");
     }
-    writing_agrees(bytes, c, b"", 8192) && writing_agrees(&bytes[0..size], c, &bytes[size..], 8192)
+    levels_agree(bytes, c, b"") && levels_agree(&bytes[0..size], c, &bytes[size..])
 }
 
 // Writing what is between the preamble and the trailer with these counts, in range or not, to more
@@ -148,7 +194,7 @@ pub(crate) fn counts_agree(file: &[u8], start: usize, size: usize, c: Counts) ->
 pub(crate) fn counts_of(r: second::Reading) -> Counts {
     Counts {
         tasks: r.tasks,
-        semaphores: r.semaphores,
+        semaphores: field_of(r),
         cells: r.cells,
         edition: r.edition,
     }
@@ -163,81 +209,101 @@ pub(crate) fn rewriting_agrees(file: &[u8]) -> bool {
     let mut out = [0u8; 8192];
     let records = recording::records(file);
     let starts = recording::starts(file);
-    write(records, counts_of(r), starts, &mut out);
+    let posts = recording::posts(file);
+    write(records, counts_of(r), starts, posts, &mut out);
     same_bytes(&out, file, file.len())
 }
 
-// Record bytes that are not a multiple of four.
-fn cut_writing(records: &[u8], c: Counts, starts: &[u8], room: usize) -> bool {
-    let n = records.len();
-    if n == 0 {
-        return true;
+// How many bytes a file needs, of so many record bytes and level bytes.
+pub(crate) fn room_needed(size: usize, levels: usize) -> usize {
+    if 4200 <= size {
+        return 0;
     }
-    writing_agrees(&records[0..n - 1], c, starts, room)
+    if 129 <= levels {
+        return 0;
+    }
+    size + levels + 16
 }
 
-// The first n bytes, or all where they are fewer.
-fn first(s: &[u8], n: usize) -> &[u8] {
-    if s.len() < n {
-        return s;
+// ---- ways of writing: with the output that is needed, and with other ones; with too little for the
+// level bytes; with a record byte less; with a start byte less and one more; in another edition; with a
+// post byte less and one more; and with a post count of 0
+
+pub(crate) const WAYS: u32 = 13;
+
+fn room_lent(needed: usize, bare: usize, which: u32) -> usize {
+    match which {
+        0 => needed,
+        2 => one_less(needed),
+        3 => 0,
+        4 => one_more(needed),
+        5 => bare,
+        _ => some_more(needed),
     }
-    &s[0..n]
 }
 
-// The same counts in the other edition.
-fn other_edition(c: Counts) -> Counts {
+// A number with one less in the one way, and one more in the next.
+fn lent(n: usize, which: u32, less: u32) -> usize {
+    if which < less {
+        return n;
+    }
+    match which - less {
+        0 => one_less(n),
+        1 => one_more(n),
+        _ => n,
+    }
+}
+
+// The counts, with another edition in one of the ways.
+fn counts_lent(c: Counts, which: u32) -> Counts {
     Counts {
         tasks: c.tasks,
         semaphores: c.semaphores,
         cells: c.cells,
-        edition: if c.edition == 1 { 2 } else { 1 },
+        edition: if which == 9 {
+            c.edition % 3 + 1
+        } else {
+            c.edition
+        },
     }
 }
 
-// Writing with other records, another number of start bytes, or the other edition. The start bytes are
-// the first n of those that are lent here.
-fn misfit_writing(
+// Writing with so many post bytes, or one, of which the last is 0; in any edition.
+fn zero_writing(records: &[u8], c: Counts, starts: &[u8], posts: usize) -> bool {
+    let mut bytes = [1u8; 64];
+    bytes[63] = 0;
+    let n = if posts == 0 { 1 } else { posts };
+    let zero = part_of(&bytes, 64 - n % 65, 64);
+    writing_agrees(records, c, starts, zero, 8192)
+}
+
+// Writing in one of the ways. The start bytes are the first n of those that are lent here, and the post
+// bytes the next, up to an end.
+fn sized_writing(
     records: &[u8],
     c: Counts,
     bytes: &[u8],
     n: usize,
-    room: usize,
+    end: usize,
     which: u32,
 ) -> bool {
-    match which {
-        6 => cut_writing(records, c, first(bytes, n), room),
-        7 => writing_agrees(records, c, first(bytes, one_less(n)), room),
-        8 => writing_agrees(records, c, first(bytes, one_more(n)), room),
-        _ => writing_agrees(records, other_edition(c), first(bytes, n), room),
+    let starts = part_of(bytes, 0, lent(n, which, 7));
+    if which == 12 {
+        return zero_writing(records, c, starts, part_of(bytes, n, end).len());
     }
+    let all = records.len();
+    let size = if which == 6 { one_less(all) } else { all };
+    let room = room_lent(room_needed(all, end), room_needed(all, 0), which);
+    writing_agrees(
+        part_of(records, 0, size),
+        counts_lent(c, which),
+        starts,
+        part_of(bytes, n, lent(end, which, 10)),
+        room,
+    )
 }
 
-// How many bytes a file needs, of these record bytes and start bytes.
-pub(crate) fn room_needed(records: &[u8], starts: &[u8]) -> usize {
-    if records.len() < 4200 && starts.len() < 65 {
-        records.len() + starts.len() + 16
-    } else {
-        0
-    }
-}
-
-// Writing with the output that is needed, and with other ones; with too little for the start bytes; and
-// with what does not fit together.
-fn sized_writing(records: &[u8], c: Counts, bytes: &[u8], n: usize, which: u32) -> bool {
-    let starts = first(bytes, n);
-    let room = room_needed(records, starts);
-    match which {
-        0 => writing_agrees(records, c, starts, room),
-        1 => writing_agrees(records, c, starts, some_more(room)),
-        2 => writing_agrees(records, c, starts, one_less(room)),
-        3 => writing_agrees(records, c, starts, 0),
-        4 => writing_agrees(records, c, starts, one_more(room)),
-        5 => writing_agrees(records, c, starts, room_needed(records, b"")),
-        _ => misfit_writing(records, c, bytes, n, some_more(room), which),
-    }
-}
-
-// The records and start bytes of a file, with its counts.
+// The records, start bytes and post bytes of a file, with its counts.
 fn accepted_writing(file: &[u8], r: second::Reading, which: u32) -> bool {
     let start = r.start;
     let size = r.events as usize * 4;
@@ -249,7 +315,8 @@ fn accepted_writing(file: &[u8], r: second::Reading, which: u32) -> bool {
         return true;
     }
     let n = r.starts as usize;
-    sized_writing(&rest[0..size], counts_of(r), &rest[size..], n, which)
+    let end = n + r.flags as usize;
+    sized_writing(&rest[0..size], counts_of(r), &rest[size..], n, end, which)
 }
 
 // Writing what a file holds; where its trailer is refused, all of it but the trailer, with counts of a
@@ -269,5 +336,5 @@ pub(crate) fn sized_writing_agrees(file: &[u8], which: u32) -> bool {
         cells: 3,
         edition: 1,
     };
-    sized_writing(&file[0..end - 16], c, &file[end - 16..], 0, which)
+    sized_writing(&file[0..end - 16], c, &file[end - 16..], 0, 0, which)
 }

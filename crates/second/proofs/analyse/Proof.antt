@@ -9,23 +9,24 @@ use Rattle.second.proofs.analyse.Tie as tie
 work-fault-requires : tie.Need-work-fault-requires
 work-fault-requires c κs = let r = c .before .before .before .load .ensures in wider (r .refusal) (lit≤ tt) (r .ranges .events)
 
--- refusals 1 to 9
+-- refused before any pass
 returns : tie.Need-returns
 returns c =
-    let none = c .if1 .taken in (
+    let none = c .if1 .taken in
+    let w = c .before .before .work-fault .ensures in (
       record {
-        refusal = wider (c .before .before .work-fault .ensures) (lit≤ tt) (lit≤ tt);
+        refusal = wider w (lit≤ tt) (lit≤ tt);
         passes = search needs;
         run = λ e. absurd (none e);
         fits = λ e. absurd (none e);
-        full = λ e. absurd (omega arith);
+        full = λ e. absurd (omega (arith, w .below (omega arith)));
       },
       λ _ _. search needs,
     )
 
 -- analysed
 returns-2 : tie.Need-returns-2
-returns-2 c = let o = c .before .before .before .before .before .before .analyse-events .ensures in (o .0, λ p q. let e = o .1 p in absurd (omega arith))
+returns-2 c = let o = c .before .before .before .before .before .before .analyse-events .ensures in (o .0, λ p ten. absurd (ten (o .1 p)))
 
 pub analyse-spec : {M : Type 1} → statement M
 analyse-spec =

@@ -1,12 +1,12 @@
 -- `second::counted` meets its contract: the records are those of the bytes. Assumes nothing.
-use Rattle.second.proofs.Laws.{own-starts}
+use Rattle.second.proofs.Laws.{own-levels}
 use borrow.Author.Needs.{needs}
 use Rattle.second.proofs.counted.Statement.{statement}
 use Rattle.second.proofs.counted.Tie as tie
 
 -- the edition is known
 ranged-requires : tie.Need-ranged-requires
-ranged-requires c κs = (c .before .before .before .unknown .ensures (c .before .before .if1 .left), c .start-bytes .ensures)
+ranged-requires c κs = (c .before .before .before .unknown .ensures (c .before .before .if1 .left), c .levels-of .ensures)
 
 pub counted-spec : {M : Type 1} → statement M
 counted-spec =
@@ -19,4 +19,4 @@ counted-spec =
     (λ c. search needs)
     (λ c κs. search needs)
     ranged-requires
-    (λ c. own-starts (c .ranged .ensures)))
+    (λ c. own-levels (c .ranged .ensures)))

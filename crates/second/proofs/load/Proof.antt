@@ -6,12 +6,12 @@ use Rattle.second.proofs.load.Tie as tie
 returns : tie.Need-returns
 returns c =
     let f = c .before .before .before .before .first-fault .ensures in
-    let h = c .before .before .before .before .before .before .before .before .before .before .before .before .before .before .before .read-trailer .ensures in
+    let h = c .before .before .before .before .before .before .before .before .before .before .before .before .before .before .before .before .before .before .before .before .before .read-trailer .ensures in
     let s = h .sound in
     record {
       refusal = f .refusal;
       ranges = s .ranges;
-      starts = s .starts;
+      levels = s .levels;
       task = λ e. s .task (f .trailer e);
       known = λ e. s .known (f .trailer e);
       extent = λ e. h .extent (f .trailer e);
@@ -25,6 +25,12 @@ load-spec =
     (λ c. search needs)
     (λ c. search needs)
     (λ c. search needs)
+    (λ c. search needs)
+    (λ c. search needs)
+    (λ c. search needs)
+    (λ c. search needs)
+    (λ c. search needs)
+    (λ c κs. search needs)
     (λ c. search needs)
     (λ c. search needs)
     (λ c. search needs)

@@ -1,7 +1,7 @@
 -- `second::write_reversed` meets its contract: what is refused as a question leaves what was lent. Assumes nothing.
 use native.Mathlib.Omega.{arith}
 use lib.Dec.{lit≤}
-use Rattle.second.proofs.Laws.{wider, unrefused}
+use Rattle.second.proofs.Laws.{wider, unrefused, answered}
 use borrow.Author.Needs.{needs}
 use Rattle.second.proofs.write_reversed.Statement.{statement}
 use Rattle.second.proofs.write_reversed.Tie as tie
@@ -15,7 +15,7 @@ question-fault-requires c κs =
 returns : tie.Need-returns
 returns c =
     let q = c .before .before .question-fault .ensures .0 in (
-      record { refused = λ _ _. q; passed = λ p. absurd (omega (arith, q .refusal .most, c .if1 .taken, p (omega arith))) },
+      record { refused = λ _ _. q; passed = λ p l. absurd (omega (arith, q .refusal .below l, p (omega arith))) },
       (λ _. search needs, λ _ _. search needs),
     )
 
@@ -30,8 +30,8 @@ returns-2 c =
     let q = c .before .before .before .before .before .before .before .before .before .before .before .before .before .before .question-fault .ensures .0 in
     let e = c .before .before .before .before .before .before .before .before .before .before .before .before .if1 .left in
     let s = c .before .before .write-forward .ensures in (
-      record { refused = λ p l. absurd (omega (arith, s .0 .least p)); passed = λ _. (unrefused q e, s .0) },
-      (s .1, λ p l. absurd (omega (arith, s .0 .least p))),
+      record { refused = λ p l. absurd (answered (s .0) p l); passed = λ _ _. (unrefused q e, s .0) },
+      (s .1, λ p l. absurd (answered (s .0) p l)),
     )
 
 pub write-reversed-spec : {M : Type 1} → statement M

@@ -23,7 +23,7 @@ returns c = (
 -- the output is too short
 returns-2 : tie.Need-returns-2
 returns-2 c =
-    let p = c .before .before .before .before .before .before .before .before .before .before .before .pre in
+    let p = c .before .before .before .before .before .before .before .before .before .before .before .before .pre in
     let e = p .0 .extent (p .1) in (
       record {
         refusal = search needs;
@@ -40,7 +40,7 @@ returns-2 c =
 -- written
 returns-3 : tie.Need-returns-3
 returns-3 c =
-    let p = c .before .before .before .before .before .before .before .before .before .before .before .before .before .before .pre in
+    let p = c .before .before .before .before .before .before .before .before .before .before .before .before .before .before .before .pre in
     let e = p .0 .extent (p .1) in (
       record {
         refusal = search needs;
@@ -62,6 +62,8 @@ write-forward-spec =
     (λ c κs. search needs)
     (λ c κs. search needs)
     returns
+    (λ c. search needs)
+    (λ c. search needs)
     (λ c. search needs)
     (λ c. search needs)
     (λ c. search needs)

@@ -1,4 +1,4 @@
--- `second::scan::unknown` meets its contract: an edition that is not unknown is 1 or 2. Assumes nothing.
+-- `second::scan::unknown` meets its contract: an edition that is not unknown is 1 to 3. Assumes nothing.
 use mathlib.Core.Bool.{true≢false}
 use borrow.Author.Needs.{needs}
 use Rattle.second.proofs.scan.unknown.Statement.{statement}

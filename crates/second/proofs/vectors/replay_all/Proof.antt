@@ -20,7 +20,6 @@ replay-all-spec =
     μ-loop
     (λ c. omega arith)
     (λ c κs. tt)
-    (λ c κs. tt)
     (λ c. omega arith)
     (λ c. omega arith)
     (λ c. omega arith)

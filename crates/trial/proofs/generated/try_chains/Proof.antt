@@ -5,10 +5,10 @@ use Rattle.trial.proofs.generated.try_chains.Statement.{statement}
 use Rattle.trial.proofs.generated.try_chains.Tie as tie
 
 abbrev Inv-loop : tie.InvT-loop
-Inv-loop name edition starts times total₀ m₀ total m = Unit {0}
+Inv-loop name edition times total₀ m₀ total m = Unit {0}
 
 abbrev μ-loop : tie.MeasureT-loop
-μ-loop name edition starts times total₀ m₀ total m = times - m
+μ-loop name edition times total₀ m₀ total m = times - m
 
 pub try-chains-spec : {M : Type 1} → statement M
 try-chains-spec =

@@ -16,6 +16,7 @@ try-drawn-spec =
     (tie.spec
     Inv-loop
     μ-loop
+    (λ c κs. tt)
     (λ c. tt)
     (λ c κs. tt)
     (λ c κs. tt)

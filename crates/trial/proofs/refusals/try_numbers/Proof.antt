@@ -5,10 +5,10 @@ use Rattle.trial.proofs.refusals.try_numbers.Statement.{statement}
 use Rattle.trial.proofs.refusals.try_numbers.Tie as tie
 
 abbrev Inv-loop : tie.InvT-loop
-Inv-loop start semaphores edition right bytes total₀ n₀ total n = Unit {0}
+Inv-loop start field edition n m posts right total₀ i₀ total i = Unit {0}
 
 abbrev μ-loop : tie.MeasureT-loop
-μ-loop start semaphores edition right bytes total₀ n₀ total n = 80 - n
+μ-loop start field edition n m posts right total₀ i₀ total i = 80 - i
 
 pub try-numbers-spec : {M : Type 1} → statement M
 try-numbers-spec =
@@ -17,10 +17,7 @@ try-numbers-spec =
     Inv-loop
     μ-loop
     (λ c. tt)
-    (λ c. omega arith)
-    (λ c. omega arith)
-    (λ c. omega arith)
-    (λ c. omega arith)
+    (λ c κs. tt)
     (λ c κs. tt)
     (λ c. omega arith)
     (λ c. omega arith)

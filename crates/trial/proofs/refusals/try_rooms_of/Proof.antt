@@ -5,10 +5,10 @@ use Rattle.trial.proofs.refusals.try_rooms_of.Statement.{statement}
 use Rattle.trial.proofs.refusals.try_rooms_of.Tie as tie
 
 abbrev Inv-loop : tie.InvT-loop
-Inv-loop start records c starts needed total₀ room₀ room-end total room = Unit {0}
+Inv-loop start records c starts posts needed total₀ room₀ room-end total room = Unit {0}
 
 abbrev μ-loop : tie.MeasureT-loop
-μ-loop start records c starts needed total₀ room₀ room-end total room = room-end - room
+μ-loop start records c starts posts needed total₀ room₀ room-end total room = room-end - room
 
 pub try-rooms-of-spec : {M : Type 1} → statement M
 try-rooms-of-spec =
@@ -16,6 +16,7 @@ try-rooms-of-spec =
     (tie.spec
     Inv-loop
     μ-loop
+    (λ c. omega arith)
     (λ c κs. tt)
     (λ c κs. tt)
     (λ c. tt)

@@ -8,7 +8,7 @@ abbrev Inv-loop : tie.InvT-loop
 Inv-loop start file total₀ which₀ total which = Unit {0}
 
 abbrev μ-loop : tie.MeasureT-loop
-μ-loop start file total₀ which₀ total which = 10 - which
+μ-loop start file total₀ which₀ total which = 13 - which
 
 pub try-writing-spec : {M : Type 1} → statement M
 try-writing-spec =

@@ -18,6 +18,7 @@ try-group-spec =
     Inv-loop
     μ-loop
     (λ c κs. tt)
+    (λ c κs. tt)
     (λ c. tt)
     (λ c κs. tt)
     (λ c κs. tt)

@@ -1,19 +1,19 @@
--- `trial::make::put_starts` is safe and ends. Lengths are kept. The measure is what is left of the range. Assumes nothing.
+-- `trial::make::put_levels` is safe and ends. Lengths are kept. The measure is what is left of the range. Assumes nothing.
 use mathlib.Core.Path.{_≡_}
 use lib.ListN.{length}
 use Prim.Native.Nat.{_-_}
 use native.Mathlib.Omega.{arith}
-use Rattle.trial.proofs.make.put_starts.Statement.{statement}
-use Rattle.trial.proofs.make.put_starts.Tie as tie
+use Rattle.trial.proofs.make.put_levels.Statement.{statement}
+use Rattle.trial.proofs.make.put_levels.Tie as tie
 
 abbrev Inv-loop : tie.InvT-loop
-Inv-loop file₀ end life n i₀ file i = length file ≡ length file₀
+Inv-loop file₀ from life what n i₀ file i = length file ≡ length file₀
 
 abbrev μ-loop : tie.MeasureT-loop
-μ-loop file₀ end life n i₀ file i = n - i
+μ-loop file₀ from life what n i₀ file i = n - i
 
-pub put-starts-spec : {M : Type 1} → statement M
-put-starts-spec =
+pub put-levels-spec : {M : Type 1} → statement M
+put-levels-spec =
     tie.close
     (tie.spec
     Inv-loop
@@ -28,5 +28,7 @@ put-starts-spec =
     (λ c. omega arith)
     (λ c. omega arith)
     (λ c. omega arith)
+    (λ c κs. tt)
+    (λ c κs. tt)
     (λ c. omega arith)
     (λ c. tt))

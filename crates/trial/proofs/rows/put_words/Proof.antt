@@ -1,19 +1,19 @@
--- `second::scan::take_starts` is safe and ends. Lengths are kept. The measure is what is left of the range. Assumes nothing.
+-- `trial::rows::put_words` is safe and ends. Lengths are kept. The measure is what is left of the range. Assumes nothing.
 use mathlib.Core.Path.{_≡_}
 use lib.ListN.{length}
 use Prim.Native.Nat.{_-_}
 use native.Mathlib.Omega.{arith}
-use Rattle.second.proofs.scan.take_starts.Statement.{statement}
-use Rattle.second.proofs.scan.take_starts.Tie as tie
+use Rattle.trial.proofs.rows.put_words.Statement.{statement}
+use Rattle.trial.proofs.rows.put_words.Tie as tie
 
 abbrev Inv-loop : tie.InvT-loop
-Inv-loop part n starts₀ s₀ starts s = length starts ≡ length starts₀
+Inv-loop row k n part₀ i₀ part i = length part ≡ length part₀
 
 abbrev μ-loop : tie.MeasureT-loop
-μ-loop part n starts₀ s₀ starts s = n - s
+μ-loop row k n part₀ i₀ part i = n - i
 
-pub take-starts-spec : {M : Type 1} → statement M
-take-starts-spec =
+pub put-words-spec : {M : Type 1} → statement M
+put-words-spec =
     tie.close
     (tie.spec
     Inv-loop
@@ -22,6 +22,7 @@ take-starts-spec =
     (λ c. omega arith)
     (λ c. omega arith)
     (λ c κs. tt)
+    (λ c. omega arith)
     (λ c κs. tt)
     (λ c. omega arith)
     (λ c. omega arith)

@@ -1,0 +1,29 @@
+-- `trial::generated::put_posts` is safe and ends. Lengths are kept. The measure is what is left of the range. Assumes nothing.
+use mathlib.Core.Path.{_≡_}
+use lib.ListN.{length}
+use Prim.Native.Nat.{_-_}
+use native.Mathlib.Omega.{arith}
+use Rattle.trial.proofs.generated.put_posts.Statement.{statement}
+use Rattle.trial.proofs.generated.put_posts.Tie as tie
+
+abbrev Inv-loop : tie.InvT-loop
+Inv-loop file₀ n e₀ file e = length file ≡ length file₀
+
+abbrev μ-loop : tie.MeasureT-loop
+μ-loop file₀ n e₀ file e = n - e
+
+pub put-posts-spec : {M : Type 1} → statement M
+put-posts-spec =
+    tie.close
+    (tie.spec
+    Inv-loop
+    μ-loop
+    (λ c. omega arith)
+    (λ c κs. tt)
+    (λ c κs. tt)
+    (λ c κs. tt)
+    (λ c. omega arith)
+    (λ c. omega arith)
+    (λ c. omega arith)
+    (λ c. omega arith)
+    (λ c. tt))

@@ -1,0 +1,28 @@
+-- `trial::rows::number` is safe and ends. Nothing has to hold from turn to turn. The measure is what is left of the range. Assumes nothing.
+use Prim.Native.Nat.{_-_}
+use native.Mathlib.Omega.{arith}
+use Rattle.trial.proofs.rows.number.Statement.{statement}
+use Rattle.trial.proofs.rows.number.Tie as tie
+
+abbrev Inv-loop : tie.InvT-loop
+Inv-loop row k from n₀ i₀ i-end n i = Unit {0}
+
+abbrev μ-loop : tie.MeasureT-loop
+μ-loop row k from n₀ i₀ i-end n i = i-end - i
+
+pub number-spec : {M : Type 1} → statement M
+number-spec =
+    tie.close
+    (tie.spec
+    Inv-loop
+    μ-loop
+    (λ c κs. tt)
+    (λ c κs. tt)
+    (λ c. tt)
+    (λ c κs. tt)
+    (λ c κs. tt)
+    (λ c. omega arith)
+    (λ c. omega arith)
+    (λ c. tt)
+    (λ c. omega arith)
+    (λ c. tt))
