@@ -3,19 +3,22 @@
 use mathlib.Core.Path.{_≡_, refl, sym, _∙_}
 use mathlib.Core.Bool.{Bool, true, false}
 use mathlib.Core.List.{List, _++_}
-use Prim.Native.Nat.{ℕ, _*_}
+use Prim.Native.Nat.{ℕ, _*_, zero-le}
 use lib.ListN.{length, drop}
 use Rattle.model.specs.declared.Refusal.{Refusal}
 use Rattle.model.specs.declared.Check.{Check}
 use Rattle.model.specs.declared.Analysis.{Analysis}
 use Rattle.model.specs.declared.Answer.{Answer}
 use Rattle.model.specs.Refusals.{after}
+use Rattle.model.specs.Recording.{size}
 use Rattle.model.specs.File.{recordingOf}
 use Rattle.model.specs.Reading.{fileCheck}
 use Rattle.model.specs.Passes.{passesMade, isSettled}
 use Rattle.model.specs.Pairs.{listed, entryNumbers}
-use Rattle.model.specs.Analysing.{workFits, filled, workCheck, analysisCheck, analysisBy, analysisOf, workAfterAnalysing, listAfterAnalysing}
+use Rattle.model.specs.Analysing.{workFits, filled, workCheck, analysisCheck, done, analysisBy, analysisOf, workAfterAnalysing, listAfterAnalysing}
 use Rattle.model.specs.Question.{questionCheck, answerBy, answerOf, workAfterAsking}
+use Rattle.model.proofs.Tests.{le-leb}
+use Rattle.model.proofs.Nothing.{listed-none, work-none, filled-none}
 use Rattle.pairs.specs.Lent.{WrittenList}
 use Rattle.analysis.specs.Lent.{Analysed, Asked}
 
@@ -57,6 +60,15 @@ module _ (f : List ℕ) (b : ℕ) (w l : List ℕ) where
       unfolding analysisCheck
       finished w′ l′ m n s e o x y =
           by-analysis Check.Passed Check.Passed work-passed (rw (work-passed, sym (o .room))) _ _ _ (rw (x, y, o .counted)) e (o .written)
+
+    -- a recording without events: the lent memory stays as it was
+    pub finished-none : size (recordingOf f) ≡ 0 → (a : Analysis) → a ≡ done (recordingOf f) b → Analysed f b w l a w l
+    unfolding analysisCheck entryNumbers
+    finished-none n a e =
+        let E = recordingOf f in
+        let fits = work-passed (work-none E n w) in
+        let empty = listed-none E n b in
+        by-analysis Check.Passed Check.Passed fits (rw (fits, empty, le-leb 0 (length l) zero-le)) _ _ _ e (sym (filled-none E n b w)) (rw empty)
 
 module _ (f : List ℕ) (x y b : ℕ) (w : List ℕ) where
   pub by-question : (k : Check) → questionCheck f x y w ≡ k → (a : Answer) (w′ : List ℕ) → a ≡ answerBy (recordingOf f) x y b k

@@ -12,21 +12,31 @@ use Rattle.model.specs.declared.Analysis.{Analysis}
 use Rattle.model.specs.declared.Answer.{Answer}
 use Rattle.model.specs.declared.Relation.{Relation}
 use Rattle.model.specs.Refusals.{after}
-use Rattle.model.specs.Recording.{Recording}
+use Rattle.model.specs.Recording.{Recording, size}
 use Rattle.model.specs.File.{recordBytes, levelBytes, recordingBy, recordingOf}
 use Rattle.model.specs.Reading.{readingOf}
 use Rattle.model.specs.Passes.{passesMade, isSettled}
 use Rattle.model.specs.Vectors.{Vectors}
 use Rattle.model.specs.Pairs.{entries, listed}
-use Rattle.model.specs.Analysing.{workFits, filled}
+use Rattle.model.specs.Analysing.{workFits, filled, done}
 use Rattle.model.specs.Question.{relationBy, relationOf, answerBy}
+use Rattle.model.proofs.Files.{sound, size-records}
+use Rattle.recording.proofs.Files.{accepted-is}
 use Rattle.pairs.specs.Lent.{WrittenList}
 use Rattle.work.specs.Lent.{inWork}
 use Rattle.work.proofs.Accepted.{passed, the-recording}
 use Rattle.work.proofs.Questions.{Checked, question-asked}
 use Rattle.work.proofs.Filled.{safe-vectors, recorded-vectors, listing}
 use Rattle.analysis.specs.Lent.{Analysed, Asked}
-use Rattle.analysis.proofs.Answers.{refused-work, refused-list, finished, by-question}
+use Rattle.analysis.proofs.Answers.{refused-work, refused-list, finished, finished-none, by-question}
+
+-- the trailer counts no record
+pub no-records : (f : List ℕ) (h : Trailer) → readingOf f ≡ Reading.Accepted h → h .records ≡ 0 → (b : ℕ) (w l : List ℕ) (a : Analysis)
+    → ((E : Recording) → size E ≡ 0 → a ≡ done E b) → Analysed f b w l a w l
+no-records f h q z b w l a r =
+    let (e, p) = accepted-is f h q in
+    let n : size (recordingOf f) ≡ 0 = size-records f (sound f p) ∙ ap (λ (x : Trailer). x .records) (sym e) ∙ z in
+    finished-none f b w l p n a (r (recordingOf f) n)
 
 module _ (f : List ℕ) (h : Trailer) (q : readingOf f ≡ Reading.Accepted h) (s : List ℕ) (e : s ≡ recordBytes f h) (v : List ℕ) (g : v ≡ levelBytes f h) (b : ℕ) (w : List ℕ) where
   abbrev E : Recording

@@ -1,7 +1,8 @@
 // Analysing a recording file, and questions about two of its events.
 ghost use mathlib.Core.Path.{_≡_};
+ghost use Rattle.model.specs.Recording.{Recording, size};
 ghost use Rattle.model.specs.Reading.{readingOf};
-ghost use Rattle.model.specs.Analysing.{analysisOf, workAfterAnalysing, listAfterAnalysing};
+ghost use Rattle.model.specs.Analysing.{done, analysisOf, workAfterAnalysing, listAfterAnalysing};
 ghost use Rattle.model.specs.Question.{answerOf, workAfterAsking};
 ghost use Rattle.analysis.specs.Lent.{Analysed, Asked};
 use model::Analysis;
@@ -13,7 +14,25 @@ use model::Trailer;
 
 const ENTRY: usize = 3; // the numbers of an entry
 
-// Analyses a file that reading accepts with this trailer.
+// Analyses a recording without events: there is nothing to raise and nothing to list, so one quiet pass settles it.
+fn analyse_none(budget: u32) -> Analysis
+    ensures { λ r. ⌜ ((E : Recording) → size E ≡ 0 → r ≡ done E budget) ⌝ }
+{
+    if budget == 0 {
+        return Analysis::Done {
+            passes: 0,
+            settled: false,
+            pairs: 0,
+        };
+    }
+    Analysis::Done {
+        passes: 1,
+        settled: true,
+        pairs: 0,
+    }
+}
+
+// Analyses a file that reading accepts with this trailer. Without records there is no memory to prepare.
 fn analyse_read(
     file: &[u8],
     trailer: Trailer,
@@ -24,6 +43,9 @@ fn analyse_read(
     requires { ⌜ readingOf (now file) ≡ Reading.Accepted trailer ⌝ }
     ensures { λ r. ⌜ Analysed (now (file .entry)) budget (now (work .entry)) (now (list .entry)) r (now (work .exit)) (now (list .exit)) ⌝ }
 {
+    if trailer.records == 0 {
+        return analyse_none(budget);
+    }
     let records = events::records_of(file, trailer);
     let counts = trailer.counts;
     let levels = events::levels_of(file, trailer);

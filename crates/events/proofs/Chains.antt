@@ -1,16 +1,20 @@
--- Laws of the chains: how they start and go on by one place, and that they go by the test alone. Assumes nothing.
-use mathlib.Core.Path.{_≡_, refl, sym, _∙_}
+-- Laws of the chains: how they start and go on by one place, that they go by the test alone, and what slots hold. Assumes nothing.
+use mathlib.Core.Path.{_≡_, refl, sym, ap, ap₂, subst, _∙_}
 use mathlib.Core.Bool.{Bool, true, false, _&&_, _||_, true≢false}
 use mathlib.Core.Logic.{⊎-elim}
-use mathlib.Core.List.{List}
-use Prim.Native.Nat.{ℕ, _+_, _≤_, _<_}
+use mathlib.Core.List.{List, [], _∷_}
+use Prim.Native.Nat.{ℕ, _+_, _*_, _/_, _%_, _≤_, _<_, zero-le}
 use native.Mathlib.Omega.{arith}
 use lib.Dec.{leb, ltb, eqb}
-use lib.ListN.{getD, set, replicate, length-set, length-replicate, getD-replicate}
+use lib.ListN.{length, getD, set, replicate, length-set, length-replicate, getD-replicate}
 use lib.Seq.{getD-set-same, getD-set-other}
 use Rattle.model.specs.declared.Event.{Event}
-use Rattle.model.proofs.Tests.{cases, tests, clash, fails, both, second, either, all-three, leb-true, leb-false, ltb-true, ltb-false, eqb-true, le-leb, eq-eqb}
-use Rattle.events.specs.Chains.{isAmong, Nearest, head, putFirst, leftOut, linked, Chained}
+use Rattle.model.specs.Recording.{eventIn, isOn, signal, wait, post}
+use Rattle.model.specs.File.{eventsOf}
+use Rattle.model.specs.Reading.{mostSemaphores, mostFlags}
+use Rattle.model.proofs.Tests.{cases, tests, clash, fails, both, first, second, either, all-three, leb-true, leb-false, ltb-true, ltb-false, eqb-true, le-leb, eq-eqb}
+use Rattle.events.specs.Chains.{isAmong, Nearest, head, putFirst, leftOut, linked, Chained, Chain, slots, slotOf, onAt, Gathered}
+use Rattle.events.proofs.Laws.{events-length}
 
 -- over no event yet
 pub start : (p : ℕ → ℕ → Bool) (n k : ℕ) → k ≤ 1024 → Chained p n k n (replicate 2048 n)
@@ -33,7 +37,7 @@ nearest-more p n e b h r =
 
 module _ (p : ℕ → ℕ → Bool) (n k e : ℕ) (chain : List ℕ) (c : Chained p n k (e + 1) chain) where
   -- an event that stands in none of the chains
-  pub next-none : ((x : ℕ) → x < k → p x e ≡ false) → Chained p n k e chain
+  next-none : ((x : ℕ) → x < k → p x e ≡ false) → Chained p n k e chain
   next-none h =
       record {
         wide = c .wide;
@@ -70,7 +74,7 @@ module _ (p : ℕ → ℕ → Bool) (n k e : ℕ) (chain : List ℕ) (c : Chaine
         rw (at-event a (omega arith), q, z, getD-set-same chain e (getD chain (head y) 0) 0 (omega (arith, c .wide))) (c .heads y l))
         (λ u. rw (at-event a (omega arith), getD-set-other chain e a (getD chain (head y) 0) 0 (λ q. omega tests)) (c .links a x (omega tests) r o t))
 
-    pub next-put : Chained p n k e (putFirst y e chain)
+    next-put : Chained p n k e (putFirst y e chain)
     next-put =
         record {
           wide = length-set (set chain e (getD chain (head y) 0)) (head y) e ∙ length-set chain e (getD chain (head y) 0) ∙ c .wide;
@@ -78,9 +82,22 @@ module _ (p : ℕ → ℕ → Bool) (n k e : ℕ) (chain : List ℕ) (c : Chaine
           links = link-next;
         }
 
+-- chains by a number of each event: the event e stands in that of its number alone
+pub next-by : (f : ℕ → ℕ) (n k e y : ℕ) (chain : List ℕ) → Chained (λ x i. eqb (f i) x) n k (e + 1) chain → f e ≡ y → y < k → k ≤ 1024 → n ≤ 1024 → e < n
+    → Chained (λ x i. eqb (f i) x) n k e (putFirst y e chain)
+next-by f n k e y chain c q l g h w = next-put (λ x i. eqb (f i) x) n k e chain c y l g h w (eq-eqb (f e) y q) (λ x t. sym (eqb-true (f e) x t) ∙ q)
+
 -- the same chains by another test that says the same
 nearest-by : (p q : ℕ → Bool) (n m b : ℕ) → ((i : ℕ) → p i ≡ q i) → Nearest p n m b → Nearest q n m b
 nearest-by p q n m b h r = record { low = r .low; high = r .high; passed = λ i l u. sym (h i) ∙ r .passed i l u; hit = λ l. sym (h b) ∙ r .hit l }
+
+-- the chain of x, by another test that says the same
+chain-of : (p : ℕ → ℕ → Bool) (n k : ℕ) (chain : List ℕ) → Chained p n k 0 chain → (x : ℕ) → x < k → (q : ℕ → Bool) → ((i : ℕ) → p x i ≡ q i) → Chain q n (head x) chain
+chain-of p n k chain c x l q h =
+    record {
+      first = nearest-by (p x) q n 0 _ h (c .heads x l);
+      next = λ a m t. nearest-by (p x) q n (a + 1) _ h (c .links a x zero-le m l (h a ∙ t));
+    }
 
 pub chained-by : (p q : ℕ → ℕ → Bool) (n k e : ℕ) (chain : List ℕ) → ((x i : ℕ) → p x i ≡ q x i) → Chained p n k e chain → Chained q n k e chain
 chained-by p q n k e chain h c =
@@ -129,3 +146,58 @@ module _ (lo hi k : ℕ) (v : Event) where
       (λ t.
       let (l, h) = within t in
       rw t (next-put p n k e chain c (v .object) l f g w (same (v .object) ∙ h) (λ x q. alone x (sym (same x) ∙ q))))
+
+-- ---- slots
+
+-- event i of the record bytes s is in the slot y
+abbrev pub inSlot : List ℕ → ℕ → ℕ → Bool
+inSlot s y i = eqb (slotOf (eventIn (eventsOf s) i .kind) (eventIn (eventsOf s) i .object)) y
+
+-- the kinds that have slots, 64 each
+abbrev slotKinds : List ℕ
+slotKinds = signal ∷ wait ∷ post ∷ []
+
+-- one that passes the test of its kind
+pub slot-passed : (k kind x : ℕ) → (eqb k kind && ltb x 64) ≡ true → (k ≡ kind) × (x < 64)
+slot-passed k kind x t = (eqb-true k kind (first (eqb k kind) (ltb x 64) t), ltb-true x 64 (second (eqb k kind) (ltb x 64) t))
+
+-- a slot tells kind and object
+slot-tells : (k x : ℕ) → slotOf k x < slots → (k ≡ getD slotKinds (slotOf k x / 64) 0) × (x ≡ slotOf k x % 64)
+unfolding slotOf
+slot-tells k x =
+    cases (eqb k signal && ltb x mostSemaphores) (λ t. rw t (λ _. told signal 0 x refl (omega arith) t))
+    (λ a.
+    cases (eqb k wait && ltb x mostSemaphores) (λ t. rw (a, t) (λ _. told wait 1 (64 + x) refl (omega arith) t))
+    (λ b. cases (eqb k post && ltb x mostFlags) (λ t. rw (a, b, t) (λ _. told post 2 (128 + x) refl (omega arith) t)) (λ d. rw (a, b, d) (λ h. absurd (omega arith)))))
+  where
+    told : (kind j y : ℕ) → kind ≡ getD slotKinds j 0 → y ≡ 64 * j + x → (eqb k kind && ltb x 64) ≡ true → (k ≡ getD slotKinds (y / 64) 0) × (x ≡ y % 64)
+    told kind j y q r t =
+        let (a, b) = slot-passed k kind x t in
+        let d : j ≡ y / 64 = omega arith in
+        (a ∙ q ∙ ap (λ (i : ℕ). getD slotKinds i 0) d, omega arith)
+
+-- so in a slot are the events of its kind on its object
+slot-on : (kind x : ℕ) (v : Event) → slotOf kind x < slots → eqb (slotOf (v .kind) (v .object)) (slotOf kind x) ≡ isOn kind x v
+slot-on kind x v h =
+    cases (isOn kind x v)
+    (λ t.
+    let k = eqb-true (v .kind) kind (first (eqb (v .kind) kind) (eqb (v .object) x) t) in
+    let o = eqb-true (v .object) x (second (eqb (v .kind) kind) (eqb (v .object) x) t) in
+    eq-eqb _ _ (ap₂ slotOf k o) ∙ sym t)
+    (λ t.
+    fails _ (λ u.
+    let q = eqb-true (slotOf (v .kind) (v .object)) (slotOf kind x) u in
+    let (k, o) = slot-tells kind x h in
+    let (m, p) = slot-tells (v .kind) (v .object) (subst (λ (y : ℕ). y < slots) (sym q) h) in
+    clash (both (eq-eqb (v .kind) kind (m ∙ ap (λ (y : ℕ). getD slotKinds (y / 64) 0) q ∙ sym k)) (eq-eqb (v .object) x (p ∙ ap (λ (y : ℕ). y % 64) q ∙ sym o))) t)
+    ∙ sym t)
+
+-- chains of slots are chains of the events on an object
+pub slots-gathered : (s chain : List ℕ) → Chained (inSlot s) (length s / 4) 193 0 chain → Gathered s chain
+slots-gathered s chain c =
+    record {
+      wide = c .wide;
+      each =
+          λ kind x h.
+          rw (events-length s) (chain-of (inSlot s) (length s / 4) 193 chain c (slotOf kind x) (omega arith) (onAt s kind x) (λ i. slot-on kind x (eventIn (eventsOf s) i) h));
+    }

@@ -9,20 +9,16 @@ use lib.Dec.{leb, ltb, eqb}
 use lib.ListN.{length, getD, set}
 use Rattle.model.specs.declared.Event.{Event}
 use Rattle.model.specs.File.{eventsOf}
-use Rattle.model.specs.Recording.{eventIn, ofTask}
-use Rattle.model.specs.Reading.{mostEvents}
+use Rattle.model.specs.Recording.{eventIn, ofTask, isOn, signal, wait, post}
+use Rattle.model.specs.Reading.{mostSemaphores, mostFlags, mostEvents}
 
 -- an event of the kinds lo to hi on the object x
 abbrev pub isAmong : ℕ → ℕ → ℕ → Event → Bool
 isAmong lo hi x v = leb lo (v .kind) && leb (v .kind) hi && eqb (v .object) x
 
--- event i of the record bytes s is one
-abbrev pub among : List ℕ → ℕ → ℕ → ℕ → ℕ → Bool
-among s lo hi x i = isAmong lo hi x (eventIn (eventsOf s) i)
-
--- the event at place i of an order is one
+-- the event at place i of an order of the events of the record bytes s is one
 abbrev pub amongIn : List ℕ → List ℕ → ℕ → ℕ → ℕ → ℕ → Bool
-amongIn s order lo hi x i = among s lo hi x (getD order i 0)
+amongIn s order lo hi x i = isAmong lo hi x (eventIn (eventsOf s) (getD order i 0))
 
 -- event i of the record bytes s is of task t
 abbrev pub byTask : List ℕ → ℕ → ℕ → Bool
@@ -62,3 +58,29 @@ pub record Chained (p : ℕ → ℕ → Bool) (n k e : ℕ) (chain : List ℕ) :
   pub wide : length chain ≡ 2048
   pub heads : (x : ℕ) → x < k → Nearest (p x) n e (getD chain (head x) 0)
   pub links : (a x : ℕ) → e ≤ a → a < n → x < k → p x a ≡ true → Nearest (p x) n (a + 1) (getD chain a 0)
+
+-- ---- the chains of a call: signals and waits of each semaphore, posts of each flag
+
+-- how many slots they have; in one more are all other events
+abbrev pub slots : ℕ
+slots = 192
+
+-- the slot of the events of this kind on the object x
+unfoldable pub slotOf : ℕ → ℕ → ℕ
+slotOf kind x =
+    cond (eqb kind signal && ltb x mostSemaphores) x
+    (cond (eqb kind wait && ltb x mostSemaphores) (64 + x) (cond (eqb kind post && ltb x mostFlags) (128 + x) slots))
+
+-- event i of the record bytes s is of this kind and on the object x
+abbrev pub onAt : List ℕ → ℕ → ℕ → ℕ → Bool
+onAt s kind x i = isOn kind x (eventIn (eventsOf s) i)
+
+-- a chain that starts at place h, of the numbers below n that pass the test
+pub record Chain (p : ℕ → Bool) (n h : ℕ) (chain : List ℕ) : Type 0 where
+  pub first : Nearest p n 0 (getD chain h 0)
+  pub next : (a : ℕ) → a < n → p a ≡ true → Nearest p n (a + 1) (getD chain a 0)
+
+-- in each slot the events of its kind on its object
+pub record Gathered (s chain : List ℕ) : Type 0 where
+  pub wide : length chain ≡ 2048
+  pub each : (kind x : ℕ) → slotOf kind x < slots → Chain (onAt s kind x) (length (eventsOf s)) (head (slotOf kind x)) chain

@@ -1,25 +1,32 @@
 // The records as lent bytes: an event's fields, searches over the first records, the look back over a part for a task's last
-// record, and what one look at all records keeps of each: positions, the event before, chains of the events on one object,
-// and the task order. And the counts: semaphores and flags, and the level bytes, which are start counts and post counts.
+// record, and what one look at all records keeps of each: positions, sources, chains of the events on one object, and the task
+// order. And the counts: semaphores and flags, and the level bytes, which are start counts and post counts.
 ghost use mathlib.Core.Path.{_≡_};
 ghost use Prim.Native.Nat.{_+_, _*_, _/_, _≤_, _<_};
+ghost use lib.Dec.{eqb};
 ghost use lib.ListN.{length, getD, take};
 ghost use lib.Seq.{sets};
 ghost use Rattle.model.specs.Numbers.{lastOf};
 ghost use Rattle.model.specs.Recording.{startOf, postOf, semaphoresOf, flagsOf, eventIn, ofTask, isOn};
 ghost use Rattle.model.specs.File.{u16At, eventsOf, recordBytes, startCount, levelCount, levelBytes, levelsBy};
 ghost use Rattle.model.specs.Reading.{mostTasks, mostCells, mostEvents};
-ghost use Rattle.model.specs.Passes.{lastEvent, beforeOrFork};
-ghost use Rattle.model.specs.LastEvent.{recordsRead};
+ghost use Rattle.model.specs.Passes.{forkOf, lastEvent, beforeOrFork};
+ghost use Rattle.model.specs.LastEvent.{recordsRead, NoneAfterJoin};
 ghost use Rattle.model.specs.Pairs.{ownEvents, taskOrder};
-ghost use Rattle.events.specs.Chains.{among, amongIn, byTask, Along, putFirst, linked, Chained};
-ghost use Rattle.events.specs.Kept.{Positions, Below, foundBelow, Before, Tasked};
+ghost use Rattle.events.specs.Chains.{amongIn, byTask, Along, putFirst, linked, Chained, slotOf, slots, head, Gathered};
+ghost use Rattle.events.specs.Kept.{Positions, KeptTasks, Below, foundBelow, KeptForks, ofJoin, Sources, Tasked};
 use model::Counts;
 use model::Event;
 use model::FORK;
 use model::Found;
+use model::JOIN;
 use model::MOST_EVENTS;
+use model::MOST_FLAGS;
+use model::MOST_SEMAPHORES;
+use model::POST;
+use model::SIGNAL;
 use model::Trailer;
+use model::WAIT;
 use model::WITH_FLAGS;
 
 // The number of two bytes, little-endian.
@@ -165,21 +172,6 @@ fn is_of_task(records: &[u8], e: usize, task: u16) -> bool
     v.task as u16 == task
 }
 
-// The last of the first n events that is this task's, found by a call on the record one lower.
-fn task_before(records: &[u8], n: usize, task: u16) -> Found
-    requires { ⌜ 4 * n ≤ length (now records) ⌝ }
-    ensures { λ r. ⌜ r ≡ lastOf (λ a. ofTask task (eventIn (eventsOf (now (records .entry))) a)) n ⌝ }
-{
-    if n == 0 {
-        return Found::Nothing;
-    }
-    let e = n - 1;
-    if is_of_task(records, e, task) {
-        return Found::At(e);
-    }
-    task_before(records, e, task)
-}
-
 // The last of the first n events with this kind and this object.
 pub fn last_on(records: &[u8], n: usize, kind: u8, object: u16) -> Found
     requires { ⌜ 4 * n ≤ length (now records) ⌝ }
@@ -245,24 +237,112 @@ pub fn positions(records: &[u8]) -> [u16; MOST_EVENTS]
     positions
 }
 
+// The task of each event, in one look.
+fn kept_tasks(records: &[u8]) -> [u8; MOST_EVENTS]
+    requires { ⌜ length (now records) ≤ 4 * mostEvents ⌝ }
+    ensures { λ r. ⌜ KeptTasks (eventsOf (now (records .entry))) r ⌝ }
+{
+    let n = records.len() / 4;
+    let mut tasks = [0u8; MOST_EVENTS];
+    let mut e = 0;
+    while e < n {
+        tasks[e] = records[4 * e];
+        e += 1;
+    }
+    tasks
+}
+
+// The last of the first n events that is this task's, found by a call on the record one lower; a number that no event has where
+// there is none.
+fn task_before(tasks: &[u8; MOST_EVENTS], n: usize, task: u8) -> usize
+    requires { ⌜ n ≤ mostEvents ⌝ }
+    ensures { λ r. ⌜ foundBelow mostEvents r ≡ lastOf (λ a. eqb (getD (now (tasks .entry)) a 0) task) n ⌝ }
+{
+    if n == 0 {
+        return MOST_EVENTS;
+    }
+    let e = n - 1;
+    if tasks[e] == task {
+        return e;
+    }
+    task_before(tasks, e, task)
+}
+
+// The last fork of each task that is a byte, in one look; the number of all events where there is none.
+fn kept_forks(records: &[u8]) -> [u16; 256]
+    requires { ⌜ length (now records) ≤ 4 * mostEvents ⌝ }
+    ensures { λ r. ⌜ KeptForks (eventsOf (now (records .entry))) r ⌝ }
+{
+    let n = records.len() / 4;
+    let mut forks = [n as u16; 256];
+    let mut e = 0;
+    while e < n {
+        let v = event_at(records, e);
+        if (v.kind == FORK) & (v.object < 256) {
+            forks[v.object as usize] = e as u16;
+        }
+        e += 1;
+    }
+    forks
+}
+
+// The fork of a task; of one that is no byte, and so has no record, it is searched for.
+fn fork_of(records: &[u8], forks: &[u16; 256], task: u16) -> Found
+    requires { ⌜ KeptForks (eventsOf (now records)) (now forks) ⌝ }
+    ensures { λ r. ⌜ (r ≡ forkOf (eventsOf (now (records .entry))) task) × Below (length (now (records .entry)) / 4) r ⌝ }
+{
+    let n = records.len() / 4;
+    if task < 256 {
+        return found_below(n, forks[task as usize]);
+    }
+    last_on(records, n, FORK, task)
+}
+
 // The event before e in its task, or for the first event of a task the fork.
-fn before_or_fork(records: &[u8], e: usize) -> Found
-    requires { ⌜ 4 * e + 3 < length (now records) ⌝ }
+fn before_or_fork(records: &[u8], tasks: &[u8; MOST_EVENTS], forks: &[u16; 256], e: usize) -> Found
+    requires { ⌜ KeptTasks (eventsOf (now records)) (now tasks) × KeptForks (eventsOf (now records)) (now forks) ⌝ }
+    requires { ⌜ (length (now records) ≤ 4 * mostEvents) × (4 * e + 3 < length (now records)) ⌝ }
     ensures { λ r. ⌜ (r ≡ beforeOrFork (eventsOf (now (records .entry))) e) × Below (length (now (records .entry)) / 4) r ⌝ }
 {
-    let v = event_at(records, e);
-    let task = v.task as u16;
-    let before = task_before(records, e, task);
-    match before {
-        Found::At(a) => Found::At(a),
-        Found::Nothing => last_on(records, records.len() / 4, FORK, task),
+    let task = tasks[e];
+    let before = task_before(tasks, e, task);
+    if before < MOST_EVENTS {
+        return Found::At(before);
     }
+    fork_of(records, forks, task as u16)
+}
+
+// For a join, the fork of the task that is joined.
+fn join_fork(records: &[u8], forks: &[u16; 256], e: usize) -> Found
+    requires { ⌜ KeptForks (eventsOf (now records)) (now forks) × (4 * e + 3 < length (now records)) ⌝ }
+    ensures { λ r. ⌜ (r ≡ ofJoin (eventsOf (now (records .entry))) e (forkOf (eventsOf (now (records .entry))) (eventIn (eventsOf (now (records .entry))) e .object)))
+        × Below (length (now (records .entry)) / 4) r ⌝ }
+{
+    let j = event_at(records, e);
+    if j.kind != JOIN {
+        return Found::Nothing;
+    }
+    fork_of(records, forks, j.object)
+}
+
+// For a join, the last event of the task that is joined: none follows the join, so the look goes back from there.
+fn join_last(records: &[u8], e: usize) -> Found
+    requires { ⌜ NoneAfterJoin (eventsOf (now records)) × (4 * e + 3 < length (now records)) ⌝ }
+    ensures { λ r. ⌜ (r ≡ ofJoin (eventsOf (now (records .entry))) e (lastEvent (eventsOf (now (records .entry))) (eventIn (eventsOf (now (records .entry))) e .object)))
+        × Below (length (now (records .entry)) / 4) r ⌝ }
+{
+    let j = event_at(records, e);
+    if j.kind != JOIN {
+        return Found::Nothing;
+    }
+    let look = last_event(&records[..4 * e], j.object);
+    look.last
 }
 
 // A found event of n as a number: n where none was found.
 fn number_of(found: Found, n: usize) -> u16
     requires { ⌜ Below n found × (n ≤ mostEvents) ⌝ }
-    ensures { λ r. ⌜ foundBelow n r ≡ found ⌝ }
+    ensures { λ r. ⌜ (foundBelow n r ≡ found) × (r ≤ n) ⌝ }
 {
     match found {
         Found::At(a) => a as u16,
@@ -280,20 +360,27 @@ pub fn found_below(n: usize, a: u16) -> Found
     Found::Nothing
 }
 
-// The event before each event in its task, or for the first event of a task the fork. One search for each event: a record
-// is passed by at most one search of each task.
-pub fn before_each(records: &[u8]) -> [u16; MOST_EVENTS]
-    requires { ⌜ length (now records) ≤ 4 * mostEvents ⌝ }
-    ensures { λ r. ⌜ Before (eventsOf (now (records .entry))) r ⌝ }
+// A place for each of the three sources of each event.
+pub const SOURCES: usize = 3072;
+
+// The sources of each event: the event before or the fork, and for a join the fork and the last event of its task. One search
+// for each event before: a record is passed by at most one search of each task.
+pub fn sources(records: &[u8]) -> [u16; SOURCES]
+    requires { ⌜ (length (now records) ≤ 4 * mostEvents) × NoneAfterJoin (eventsOf (now records)) ⌝ }
+    ensures { λ r. ⌜ Sources (eventsOf (now (records .entry))) r ⌝ }
 {
     let n = records.len() / 4;
-    let mut before = [0u16; MOST_EVENTS];
+    let tasks = kept_tasks(records);
+    let forks = kept_forks(records);
+    let mut kept = [0u16; SOURCES];
     let mut e = 0;
     while e < n {
-        before[e] = number_of(before_or_fork(records, e), n);
+        kept[3 * e] = number_of(before_or_fork(records, &tasks, &forks, e), n);
+        kept[3 * e + 1] = number_of(join_fork(records, &forks, e), n);
+        kept[3 * e + 2] = number_of(join_last(records, e), n);
         e += 1;
     }
-    before
+    kept
 }
 
 // How long chains are: a place for each event, then one for each object.
@@ -321,19 +408,51 @@ fn link(v: Event, lo: u8, hi: u8, limit: u16, i: usize, chain: &mut [u16; CHAINS
     put_first(chain, v.object, i);
 }
 
-// Gathers the events of the kinds lo to hi in a chain for each object below `limit`, from the last event to the first.
-pub fn gather(records: &[u8], lo: u8, hi: u8, limit: u16) -> [u16; CHAINS]
-    requires { ⌜ (length (now records) ≤ 4 * mostEvents) × (limit ≤ mostCells) ⌝ }
-    ensures { λ r. ⌜ Chained (among (now (records .entry)) lo hi) (length (now (records .entry)) / 4) limit 0 r ⌝ }
+// The slots that events are gathered in: one for the signals on each semaphore, one for the waits on it, one for the posts on
+// each flag, and the last for every other event.
+const WAITS: u16 = 64;
+
+const POSTS: u16 = 128;
+
+const OTHERS: u16 = 192;
+
+// The slot of the events of this kind on object x.
+pub fn slot_of(kind: u8, x: u16) -> u16
+    ensures { λ r. ⌜ (r ≡ slotOf kind x) × (r ≤ slots) ⌝ }
 {
-    let mut e = records.len() / 4;
-    let none = e as u16;
-    let mut chain = [none; CHAINS];
+    if (kind == SIGNAL) & (x < MOST_SEMAPHORES) {
+        return x;
+    }
+    if (kind == WAIT) & (x < MOST_SEMAPHORES) {
+        return WAITS + x;
+    }
+    if (kind == POST) & (x < MOST_FLAGS) {
+        return POSTS + x;
+    }
+    OTHERS
+}
+
+// Gathers all events in the chains of their slots, from the last event to the first.
+pub fn gather(records: &[u8]) -> [u16; CHAINS]
+    requires { ⌜ length (now records) ≤ 4 * mostEvents ⌝ }
+    ensures { λ r. ⌜ Gathered (now (records .entry)) r ⌝ }
+{
+    let n = records.len() / 4;
+    let mut chain = [n as u16; CHAINS];
+    let mut e = n;
     while 0 < e {
         e -= 1;
-        link(event_at(records, e), lo, hi, limit, e, &mut chain);
+        let v = event_at(records, e);
+        put_first(&mut chain, slot_of(v.kind, v.object), e);
     }
     chain
+}
+
+// The first event in the slot of this kind on object x; in gathered chains the number of all events where there is none.
+pub fn first_on(chain: &[u16; CHAINS], kind: u8, x: u16) -> usize
+    ensures { λ r. ⌜ r ≡ getD (now (chain .entry)) (head (slotOf kind x)) 0 ⌝ }
+{
+    at_place(chain, MOST_EVENTS + (slot_of(kind, x) as usize))
 }
 
 // The event at place i of an order, or the next one in a chain.

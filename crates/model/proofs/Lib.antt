@@ -19,10 +19,12 @@ pub mod Sound
 pub mod Climb
 pub mod Rise
 pub mod Settle
+pub mod Raising
 pub mod Recorded
 pub mod Forward
 pub mod TaskOrder
 pub mod Listed
+pub mod Nothing
 pub mod Twins
 pub mod Monotone
 pub mod Quiet

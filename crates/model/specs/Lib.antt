@@ -8,6 +8,7 @@ pub mod Walking
 pub mod Orders
 pub mod Vectors
 pub mod Passes
+pub mod Raising
 pub mod LastEvent
 pub mod Recorded
 pub mod Pairs

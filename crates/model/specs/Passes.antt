@@ -76,6 +76,7 @@ abbrev pub postWhere : Recording → ℕ → Bool → ℕ
 postWhere E e true = postOf (E .levels) (objectOf E e)
 postWhere E e false = 0
 
+-- k of a wait, or else that of a flag wait
 abbrev pub kWhere : Recording → Vectors → ℕ → Bool → ℕ
 kWhere E X e true = kOf E X e (objectOf E e)
 kWhere E X e false = postWhere E e (eqb (kindOf E e) flagWait)

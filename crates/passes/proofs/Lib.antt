@@ -1,7 +1,9 @@
 pub mod Tests
 pub mod Taken
 pub mod Waits
+pub mod Walks
 pub mod Searches
 pub mod Starts
 pub mod Runs
 pub mod Matching
+pub mod Stamps

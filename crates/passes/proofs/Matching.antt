@@ -1,37 +1,27 @@
 -- Laws of the matches in one look: how they start and go on by one event, that the signal at hand is the matched one, and that the
 -- posts at hand, one after another, are the first. Assumes nothing.
-use mathlib.Core.Path.{_≡_, sym, ap, _∙_}
-use mathlib.Core.Bool.{Bool, true, false, _&&_}
+use mathlib.Core.Path.{_≡_, sym, ap, subst, _∙_}
+use mathlib.Core.Bool.{Bool, true, false}
 use mathlib.Core.List.{List, [], _∷_, _++_}
-use Prim.Native.Nat.{ℕ, zero, suc, _+_, _-_, _≤_, _<_, min}
-use native.Mathlib.Decide.{decLe}
+use Prim.Native.Nat.{ℕ, _+_, _-_, _≤_, _<_, min}
 use native.Mathlib.Numerals.{add-one}
 use native.Mathlib.Omega.{arith}
-use lib.Dec.{leb, eqb}
+use lib.Dec.{eqb}
 use lib.ListN.{length, getD, take, set, replicate, length-set, length-replicate, getD-replicate}
 use lib.Seq.{getD-set-same, getD-set-other, take-suc, take-all}
 use Rattle.model.specs.declared.Found.{Found}
-use Rattle.model.specs.Numbers.{bit, sum, tally, picked, nth}
+use Rattle.model.specs.Numbers.{bit, tally, picked, nth}
 use Rattle.model.specs.File.{eventsOf}
 use Rattle.model.specs.Passes.{eventsOn}
-use Rattle.model.proofs.Tests.{cases, tests, fails, both, first, second, eqb-true, le-leb}
+use Rattle.model.proofs.Tests.{cases, tests, fails, second, eqb-true}
 use Rattle.model.proofs.Sum.{rank-rises}
 use Rattle.model.proofs.Picked.{picked-length, rank-at}
-use Rattle.events.specs.Chains.{among, Nearest, head, Chained}
+use Rattle.events.specs.Chains.{onAt, Nearest, head, Chain, Gathered}
 use Rattle.events.proofs.Laws.{tally-next}
-use Rattle.events.proofs.Chains.{chained-by}
-use Rattle.passes.specs.Matching.{onAt, signalAt, waitAt, AtHand, Matching}
+use Rattle.passes.specs.Matching.{signalAt, waitAt, AtHand, Matching}
 use Rattle.passes.proofs.Searches.{tally-start, nth-here, nth-none}
-use Rattle.model.specs.Recording.{Levels, startOf, eventIn, wait}
-
--- a tally does not rise over numbers that fail
-tally-skip : (p : ℕ → Bool) (m b : ℕ) → m ≤ b → ((i : ℕ) → m ≤ i → i < b → p i ≡ false) → tally p b ≡ tally p m
-unfolding sum
-tally-skip p m zero h e = let z : m ≡ 0 = omega arith in rw z
-tally-skip p m (suc b) h e = elim (decLe m b) [
-  | yes l ↦ omega (arith, tally-skip p m b l (λ i x y. e i x (omega arith)), ap bit (e b l (omega arith)))
-  | no l ↦ (let z : m ≡ suc b = omega arith in rw z)
-]
+use Rattle.passes.proofs.Walks.{tally-skip, signal-slot, has-slots}
+use Rattle.model.specs.Recording.{Levels, startOf, eventIn, signal, wait}
 
 -- ---- what is at hand
 
@@ -85,33 +75,21 @@ module _ (s : List ℕ) (kind x w b : ℕ) (h : AtHand (onAt s kind x) (length (
       let z = picked-length (onAt s kind x) (length (eventsOf s)) in
       take-all w on (omega (arith, few l)) ∙ sym (take-all m on (omega (arith, few l)))
 
--- ---- chains of one kind
-
--- the kinds k to k are k
-one-kind : (k j : ℕ) → (leb k j && leb j k) ≡ eqb j k
-one-kind k j =
-    cases (eqb j k) (λ t. both (le-leb k j (omega tests)) (le-leb j k (omega tests)) ∙ sym t)
-    (λ t. fails (leb k j && leb j k) (λ u. let a = first (leb k j) (leb j k) u in let b = second (leb k j) (leb j k) u in omega tests) ∙ sym t)
-
--- gathered by one kind
-pub of-kind : (s : List ℕ) (kind n k : ℕ) (chain : List ℕ) → n ≡ length (eventsOf s) → Chained (among s kind kind) n k 0 chain
-    → Chained (onAt s kind) (length (eventsOf s)) k 0 chain
-of-kind s kind n k chain q d =
-    rw q at (chained-by (among s kind kind) (onAt s kind) n k 0 chain (λ x i. ap (λ (b : Bool). b && eqb (eventIn (eventsOf s) i .object) x) (one-kind kind (eventIn (eventsOf s) i .kind))) d)
-
 -- ---- the running state
 
--- before the first event
-pub start : (s : List ℕ) (levels : Levels) (chain : List ℕ) → Chained (signalAt s) (length (eventsOf s)) 64 0 chain → Matching s levels 0 (replicate 64 0) chain
+-- before the first event, by the signals' chains
+pub start : (s : List ℕ) (levels : Levels) (chain : List ℕ) → Gathered s chain → Matching s levels 0 (replicate 64 0) chain
 start s levels chain c =
+    let of : (x : ℕ) → x < 64 → Chain (signalAt s x) (length (eventsOf s)) (head x) chain =
+    λ x l. rw (signal-slot x l) at (c .each signal x (has-slots x l .0)) in
     record {
       places = length-replicate {A = ℕ} 64 0;
       wide = c .wide;
       counted = λ x l. rw (getD-replicate {A = ℕ} 64 x 0 0 l) (omega (arith, tally-start (waitAt s x)));
       heads = λ x l.
-          let z : tally (waitAt s x) 0 - startOf levels x ≡ 0 = omega (arith, tally-start (waitAt s x)) in
-          rw z (hand-first (signalAt s x) (length (eventsOf s)) (getD chain (head x) 0) (c .heads x l));
-      links = λ a x l m t. c .links a x (omega arith) l m t;
+          let w : 0 ≡ tally (waitAt s x) 0 - startOf levels x = omega (arith, tally-start (waitAt s x)) in
+          subst (λ (w : ℕ). AtHand (signalAt s x) (length (eventsOf s)) w (getD chain (head x) 0)) w (hand-first (signalAt s x) (length (eventsOf s)) (getD chain (head x) 0) (of x l .first));
+      links = λ a x l m t. of x m .next a l t;
     }
 
 module _ (s : List ℕ) (levels : Levels) (e : ℕ) (unmatched chain : List ℕ) (m : Matching s levels e unmatched chain) where

@@ -1,29 +1,19 @@
--- What the searches over the records find: below which number it lies, the signal that matches a wait, and the posts that open a flag.
+-- The number of a rank among those that pass a test, the signal that matches a wait, and the posts that open a flag.
 -- Assumes nothing.
 use Prim.Native.Nat.{ℕ, _-_, _≤_, _<_}
-use mathlib.Core.Path.{_≡_, refl, sym, ap, ap₂, subst, _∙_}
+use mathlib.Core.Path.{_≡_, refl, sym, ap, _∙_}
 use mathlib.Core.Bool.{Bool, true}
 use mathlib.Core.List.{[]}
 use native.Mathlib.Omega.{arith}
 use lib.ListN.{take}
-use Rattle.model.specs.declared.Event.{Event}
 use Rattle.model.specs.declared.Found.{Found}
-use Rattle.model.specs.Numbers.{sum, tally, picked, lastOf, nth}
+use Rattle.model.specs.Numbers.{sum, tally, picked, nth}
 use Rattle.model.specs.Recording.{startOf, postOf, Recording, kindOf, objectOf, wait, flagWait}
 use Rattle.model.specs.Passes.{signalsOn, postsOn}
 use Rattle.model.specs.Recorded.{waitsBefore, matched, opened}
 use Rattle.model.proofs.Tests.{eq-eqb, ne-eqb, lt-ltb, le-ltb}
 use Rattle.model.proofs.Sum.{rank-rises, rank-same}
 use Rattle.model.proofs.Picked.{nth-of, nth-found}
-use Rattle.events.specs.Kept.{Below}
-use Rattle.events.proofs.Kept.{last-below}
-
--- a search by what is known of an event, and where it looked
-pub searched : (P : Event → ℕ → Bool) (v w : Event) (n m : ℕ) (r : Found) → r ≡ lastOf (P v) n → v ≡ w → n ≡ m → r ≡ lastOf (P w) m
-searched P v w n m r q p h = q ∙ ap₂ (λ (u : Event) (k : ℕ). lastOf (P u) k) p h
-
-pub found-below : (p : ℕ → Bool) (n m : ℕ) (r : Found) → r ≡ lastOf p n → n ≡ m → Below m r
-found-below p n m r q h = subst (Below m) (sym (q ∙ ap (lastOf p) h)) (last-below p m)
 
 -- the number of rank k
 pub nth-here : (p : ℕ → Bool) (n k a : ℕ) → a < n → p a ≡ true → tally p a ≡ k → Found.At a ≡ nth (picked p n) k

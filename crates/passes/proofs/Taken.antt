@@ -1,25 +1,26 @@
 -- Step 1: what is found is taken one event after another, and in the end the largest of all, number by number, is there.
 -- Assumes nothing.
-use Prim.Native.Nat.{ℕ, _+_, _*_, _<_, zero-le, max}
+use Prim.Native.Nat.{ℕ, _+_, _*_, _/_, _%_, _<_, zero-le, max}
 use mathlib.Core.Path.{_≡_, refl, sym, ap, ap₂, _∙_}
 use mathlib.Core.List.{List, [], _∷_, _++_, append-assoc}
 use native.Mathlib.Omega.{arith}
 use lib.Dec.{eqb}
 use lib.ListN.{length, getD, set}
 use Rattle.model.specs.declared.Counts.{Counts}
+use Rattle.model.specs.declared.Event.{Event}
 use Rattle.model.specs.declared.Found.{Found}
 use Rattle.model.specs.Numbers.{found, largest}
-use Rattle.model.specs.Recording.{Recording, size, tasks, kindOf, objectOf, join}
+use Rattle.model.specs.Recording.{Recording, size, tasks, eventIn, join}
 use Rattle.model.specs.Vectors.{Vectors, number}
-use Rattle.model.specs.Passes.{forkOf, lastEvent, beforeOrFork, joinSources, sources, gathered, stepOne}
+use Rattle.model.specs.Passes.{sources, gathered, stepOne}
 use Rattle.model.specs.Recorded.{matched, opened, causes}
-use Rattle.model.proofs.Tests.{cases, eqb-true, eqb-false, eq-eqb, ne-eqb}
+use Rattle.model.proofs.Tests.{cases, eqb-true, eqb-false}
 use Rattle.model.proofs.Climb.{Shaped}
 use Rattle.vectors.specs.Rows.{chunks, raisedTo}
 use Rattle.vectors.proofs.Chunks.{next-row, same-numbers, chunks-shaped, number-chunks}
 use Rattle.vectors.proofs.Raised.{raisedTo-same, raisedTo-other, raisedTo-shaped, raisedTo-alike, raisedTo-none, chunks-raised}
 use Rattle.passes.specs.Lent.{Inside, raisedFound}
-use Rattle.events.specs.Kept.{Below}
+use Rattle.events.specs.Kept.{Below, sourceOf}
 use Rattle.passes.specs.Steps.{taken, recordedEvent}
 
 -- numbers that differ only where they are not above y
@@ -119,31 +120,35 @@ pub gathered-taken : (E : Recording) (X : Vectors) (from : List ℕ) (e : ℕ) �
 unfolding gathered taken raisedTo largest
 gathered-taken E X from e = refl
 
--- step 1: the event before or the fork, then what a join adds
-pub step-one : (E : Recording) (X Y Z : Vectors) (e : ℕ) (f : Found) → Shaped (size E) (tasks E) X → e < size E
-    → f ≡ beforeOrFork (E .events) e → Y ≡ taken (E .counts) X (found f) e
-    → Z ≡ taken (E .counts) Y (joinSources (E .events) e (eqb (kindOf E e) join)) e → Z ≡ stepOne E X e
-unfolding stepOne sources
-step-one E X Y Z e f s h p q r =
+-- some, then others, then others again
+three-taken : (c : Counts) {n : ℕ} (X Y Z W : Vectors) (e : ℕ) → Shaped n (c .tasks) X → e < n → (from more rest : List ℕ)
+    → Y ≡ taken c X from e → Z ≡ taken c Y more e → W ≡ taken c Z rest e → W ≡ taken c X (from ++ (more ++ rest)) e
+three-taken c X Y Z W e s h from more rest p q r =
     r
-    ∙ ap (λ (W : Vectors). taken (E .counts) W (joinSources (E .events) e (eqb (kindOf E e) join)) e)
-    (q ∙ ap (λ (f : Found). taken (E .counts) X (found f) e) p)
-    ∙ taken-then (E .counts) X e s h (found (beforeOrFork (E .events) e)) (joinSources (E .events) e (eqb (kindOf E e) join))
-    ∙ sym (gathered-taken E X (found (beforeOrFork (E .events) e) ++ joinSources (E .events) e (eqb (kindOf E e) join)) e)
+    ∙ ap (λ (U : Vectors). taken c U rest e) (q ∙ ap (λ (U : Vectors). taken c U more e) p ∙ taken-then c X e s h from more)
+    ∙ taken-then c X e s h (from ++ more) rest
+    ∙ ap (λ (all : List ℕ). taken c X all e) (append-assoc from more rest)
 
--- what a join adds: the fork of its task, then the last event of it
-pub join-other : (E : Recording) (X : Vectors) (e : ℕ) → Shaped (size E) (tasks E) X → e < size E → (kindOf E e ≡ join → ⊥)
-    → X ≡ taken (E .counts) X (joinSources (E .events) e (eqb (kindOf E e) join)) e
-join-other E X e s h d = rw (ne-eqb (kindOf E e) join d) (sym (taken-none (E .counts) X e s h))
+-- step 1: the source of an event that is kept at place i, and the three sources one after another
+abbrev kept : List Event → ℕ → List ℕ
+kept l i = found (sourceOf l (i / 3) (i % 3))
 
-pub join-taken : (E : Recording) (l k j : List ℕ) (e : ℕ) (f g : Found) → length l ≡ size E * tasks E → length k ≡ size E * tasks E → e < size E
-    → kindOf E e ≡ join → f ≡ forkOf (E .events) (objectOf E e) → g ≡ lastEvent (E .events) (objectOf E e)
-    → k ≡ raisedFound (tasks E) l e f → j ≡ raisedFound (tasks E) k e g
-    → chunks (size E) (tasks E) j ≡ taken (E .counts) (chunks (size E) (tasks E) l) (joinSources (E .events) e (eqb (kindOf E e) join)) e
-join-taken E l k j e f g p q h d t u r z =
-    let x : chunks (size E) (tasks E) k ≡ taken (E .counts) (chunks (size E) (tasks E) l) (found f) e =
-    ap (chunks (size E) (tasks E)) r ∙ taken-found (E .counts) (size E) l e f p h in
-    rw (eq-eqb (kindOf E e) join d, ← t, ← u) (ap (chunks (size E) (tasks E)) z ∙ found-then (E .counts) (size E) l k e (found f) g p q h x)
+kept-at : (l : List Event) (i e j : ℕ) → i ≡ 3 * e + j → j < 3 → kept l i ≡ found (sourceOf l e j)
+kept-at l i e j q h = ap₂ (λ (a b : ℕ). found (sourceOf l a b)) (omega arith) (omega arith)
+
+three-kept : (l : List Event) (e : ℕ) → kept l (3 * e) ++ (kept l (3 * e + 1) ++ kept l (3 * e + 2)) ≡ sources l e
+unfolding sources sourceOf
+three-kept l e =
+    ap₂ _++_ (kept-at l (3 * e) e 0 (omega arith) (omega arith)) (ap₂ _++_ (kept-at l (3 * e + 1) e 1 (omega arith) (omega arith)) (kept-at l (3 * e + 2) e 2 (omega arith) (omega arith)))
+    ∙ cases (eqb (eventIn l e .kind) join) (λ t. rw t) (λ t. rw t)
+
+pub step-one : (E : Recording) (X Y Z W : Vectors) (e : ℕ) → Shaped (size E) (tasks E) X → e < size E → Y ≡ taken (E .counts) X (kept (E .events) (3 * e)) e
+    → Z ≡ taken (E .counts) Y (kept (E .events) (3 * e + 1)) e → W ≡ taken (E .counts) Z (kept (E .events) (3 * e + 2)) e → W ≡ stepOne E X e
+unfolding stepOne
+step-one E X Y Z W e s h p q r =
+    three-taken (E .counts) X Y Z W e s h _ _ _ p q r
+    ∙ ap (λ (all : List ℕ). taken (E .counts) X all e) (three-kept (E .events) e)
+    ∙ sym (gathered-taken E X (sources (E .events) e) e)
 
 -- the recorded vector: step 1, then the matched signal, then the first posts
 pub record-event : (E : Recording) (X Y Z W : Vectors) (e : ℕ) → Shaped (size E) (tasks E) X → e < size E → Y ≡ stepOne E X e
@@ -151,12 +156,5 @@ pub record-event : (E : Recording) (X Y Z W : Vectors) (e : ℕ) → Shaped (siz
     → W ≡ recordedEvent E X e
 unfolding stepOne recordedEvent
 record-event E X Y Z W e s h q r u =
-    let c = E .counts in
-    let from = sources (E .events) e in
-    let signal = found (matched (E .levels) (E .events) e) in
-    let posts = opened (E .levels) (E .events) e in
-    u
-    ∙ ap (λ (U : Vectors). taken c U posts e) (r ∙ ap (λ (U : Vectors). taken c U signal e) (q ∙ gathered-taken E X from e) ∙ taken-then c X e s h from signal)
-    ∙ taken-then c X e s h (from ++ signal) posts
-    ∙ ap (λ (all : List ℕ). taken c X all e) (append-assoc from signal posts)
+    three-taken (E .counts) X Y Z W e s h (sources (E .events) e) _ _ (q ∙ gathered-taken E X (sources (E .events) e) e) r u
     ∙ sym (gathered-taken E X (causes (E .levels) (E .events) e) e)

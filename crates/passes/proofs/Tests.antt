@@ -1,7 +1,7 @@
 -- What lent vectors order, and where a number lies among them.
 -- Assumes nothing.
 use Prim.Native.Nat.{ℕ, _+_, _*_, _<_}
-use mathlib.Core.Path.{_≡_, sym, _∙_}
+use mathlib.Core.Path.{_≡_, _∙_}
 use mathlib.Core.Bool.{Bool, true, false, _&&_}
 use mathlib.Core.List.{List}
 use native.Mathlib.Omega.{arith}
@@ -24,9 +24,6 @@ module _ (l : List Event) (X : Vectors) (a b : ℕ) where
   unfolding ordered
   ordered-other h q = q ∙ rw (ne-eqb a b h)
 
--- a test that comes first, and one behind it
-pub and-passed : (r p q x : Bool) → r ≡ p → r ≡ true → x ≡ q → x ≡ (p && q)
-and-passed r p q x e t f = rw (sym e ∙ t, f)
-
-pub and-failed : (r p q : Bool) → r ≡ p → r ≡ false → false ≡ (p && q)
-and-failed r p q e t = rw (sym e ∙ t)
+-- where the test that comes first passes, the one behind it decides
+pub and-passed : (p q x : Bool) → p ≡ true → x ≡ q → x ≡ (p && q)
+and-passed p q x t e = rw (t, e)

@@ -11,7 +11,8 @@ use Rattle.model.specs.File.{eventsOf, recordingBy}
 use Rattle.model.specs.Vectors.{Vectors}
 use Rattle.model.specs.LastEvent.{NoneAfterJoin}
 use Rattle.vectors.specs.Rows.{chunks, raisedAt}
-use Rattle.events.specs.Kept.{Positions}
+use Rattle.events.specs.Kept.{Positions, Sources}
+use Rattle.events.specs.Chains.{Gathered}
 use Rattle.model.specs.Reading.{mostSemaphores, mostFlags, mostEvents}
 
 -- lent numbers as one vector for each event
@@ -48,6 +49,12 @@ pub record Records (s : List ℕ) (c : Counts) : Type 0 where
 pub record Placed (s : List ℕ) (c : Counts) (positions : List ℕ) : Type 0 where
   pub records : Records s c
   pub kept : Positions (eventsOf s) positions
+
+-- and their sources, and the chains of signals, waits and posts
+pub record Prepared (s : List ℕ) (c : Counts) (positions sources chains : List ℕ) : Type 0 where
+  pub placed : Placed s c positions
+  pub sourced : Sources (eventsOf s) sources
+  pub linked : Gathered s chains
 
 -- the vector of a found event, of m numbers, lies in a list of this length
 abbrev pub Inside : ℕ → ℕ → Found → Type 0

@@ -1,3 +1,4 @@
 pub mod Lent
 pub mod Steps
 pub mod Matching
+pub mod Stamps

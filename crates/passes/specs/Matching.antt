@@ -7,16 +7,11 @@ use mathlib.Core.Bool.{Bool, true}
 use mathlib.Core.List.{List}
 use lib.ListN.{length, getD}
 use Rattle.model.specs.Numbers.{tally}
-use Rattle.model.specs.Recording.{Levels, startOf, signal, wait, post, isOn, eventIn}
+use Rattle.model.specs.Recording.{Levels, startOf, signal, wait}
 use Rattle.model.specs.File.{eventsOf}
-use Rattle.model.specs.Reading.{mostFlags}
-use Rattle.events.specs.Chains.{Nearest, head, Chained}
+use Rattle.events.specs.Chains.{onAt, Nearest, head}
 
--- event i of the record bytes s is of this kind and on object x
-abbrev pub onAt : List ℕ → ℕ → ℕ → ℕ → Bool
-onAt s kind x i = isOn kind x (eventIn (eventsOf s) i)
-
--- it is a signal, or a wait, on semaphore x
+-- event i of the record bytes s is a signal, or a wait, on semaphore x
 abbrev pub signalAt : List ℕ → ℕ → ℕ → Bool
 signalAt s x i = onAt s signal x i
 
@@ -38,7 +33,3 @@ pub record Matching (s : List ℕ) (levels : Levels) (e : ℕ) (unmatched chain 
   pub counted : (x : ℕ) → x < 64 → getD unmatched x 0 ≡ min (startOf levels x) (tally (waitAt s x) e)
   pub heads : (x : ℕ) → x < 64 → AtHand (signalAt s x) (length (eventsOf s)) (tally (waitAt s x) e - startOf levels x) (getD chain (head x) 0)
   pub links : (a x : ℕ) → a < length (eventsOf s) → x < 64 → signalAt s x a ≡ true → Nearest (signalAt s x) (length (eventsOf s)) (a + 1) (getD chain a 0)
-
--- the chains of the posts on each flag
-abbrev pub PostChains : List ℕ → List ℕ → Type 0
-PostChains s chain = Chained (onAt s post) (length (eventsOf s)) mostFlags 0 chain

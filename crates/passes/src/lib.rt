@@ -1,31 +1,31 @@
-// Passes and safe vectors, and the recorded run, over record bytes and lent work numbers.
-ghost use Prim.Native.Nat.{_+_, _*_, _/_, _≤_, _<_};
+// Passes and safe vectors, and the recorded run, over record bytes and lent work numbers. What a call looks up of the records
+// (positions, sources, chains) is lent, and a pass raises only the events that read a vector that has changed.
+ghost use Prim.Native.Nat.{_+_, _*_, _/_, _%_, _≤_, _<_};
 ghost use mathlib.Core.Path.{_≡_};
 ghost use mathlib.Core.List.{[], _++_};
-ghost use lib.Dec.{eqb};
 ghost use lib.ListN.{length, take, drop};
 ghost use lib.Seq.{sets};
-ghost use mathlib.Core.Bool.{true};
-ghost use Rattle.model.specs.Recording.{eventIn, kindOf, join, isJoin};
+ghost use Rattle.model.specs.Numbers.{found};
+ghost use Rattle.model.specs.Recording.{eventIn};
 ghost use Rattle.model.specs.File.{eventsOf, levelsBy, recordingBy};
 ghost use Rattle.model.specs.Vectors.{atOrBefore, flat, start, ordered};
-ghost use Rattle.model.specs.Passes.{lastEvent, joinSources, stepOne, postsOn, kOf, pass, run};
+ghost use Rattle.model.specs.Passes.{stepOne, postsOn, kOf, pass, run};
 ghost use Rattle.model.specs.Recorded.{matched, opened, recorded};
-ghost use Rattle.model.specs.LastEvent.{NoneAfterJoin};
+ghost use Rattle.model.specs.Reading.{mostSemaphores, mostFlags, mostEvents};
 ghost use Rattle.vectors.specs.Rows.{Rose};
-ghost use Rattle.passes.specs.Lent.{vectorsIn, over, Becomes, Fitting, Numbered, Records, Placed, Inside, raisedFound};
-ghost use Rattle.events.specs.Kept.{Below, Before};
-ghost use Rattle.passes.specs.Matching.{Matching, PostChains};
-ghost use Rattle.passes.specs.Steps.{firstRow, taken, waitBefore, candidate, candidatesOn, waited, stepTwo, raisedEvent, recordedEvent};
-ghost use Rattle.model.specs.Reading.{mostFlags, mostEvents};
+ghost use Rattle.events.specs.Kept.{Below, sourceOf, Sources};
+ghost use Rattle.events.specs.Chains.{slots, slotOf, Gathered};
+ghost use Rattle.passes.specs.Lent.{vectorsIn, over, Becomes, Fitting, Numbered, Records, Placed, Prepared, Inside, raisedFound};
+ghost use Rattle.passes.specs.Matching.{Matching};
+ghost use Rattle.passes.specs.Stamps.{stamps, servedAt, still, touched, KnownIn, Timed};
+ghost use Rattle.passes.specs.Steps.{firstRow, taken, candidatesOn, waited, stepTwo, raisedEvent, recordedEvent};
 use events::CHAINS;
+use events::SOURCES;
 use model::Counts;
+use model::Event;
 use model::FLAG_WAIT;
-use model::FORK;
 use model::Found;
-use model::JOIN;
 use model::MOST_EVENTS;
-use model::MOST_FLAGS;
 use model::MOST_SEMAPHORES;
 use model::POST;
 use model::SIGNAL;
@@ -89,92 +89,40 @@ fn raise_found(v: &mut [u16], e: usize, tasks: usize, from: Found) -> bool
     }
 }
 
-// The last event of the task that is joined at e: none follows the join, so the look goes back from there.
-fn last_joined(records: &[u8], e: usize, task: u16) -> Found
-    requires { ⌜ NoneAfterJoin (eventsOf (now records)) × Numbered (now records) e × (isJoin task (eventIn (eventsOf (now records)) e) ≡ true) ⌝ }
-    ensures { λ r. ⌜ r ≡ lastEvent (eventsOf (now (records .entry))) task ⌝ }
-{
-    let look = events::last_event(&records[..4 * e], task);
-    look.last
-}
-
-// For a join of t, raises vector e to those of the fork of t and of t's last event. Answers whether any number rose.
-fn raise_by_join(records: &[u8], counts: Counts, e: usize, v: &mut [u16]) -> bool
-    requires { ⌜ Records (now records) counts × Fitting (now records) counts (now v) × Numbered (now records) e ⌝ }
-    ensures { λ _. ⌜ Becomes (λ E X. taken counts X (joinSources (E .events) e (eqb (kindOf E e) join)) e) (now (records .entry)) counts [] (now (v .entry)) (now (v .exit)) ⌝ }
-    ensures { λ r. ⌜ Rose (now (v .entry)) (now (v .exit)) r ⌝ }
-{
-    let j = events::event_at(records, e);
-    if j.kind != JOIN {
-        return false;
-    }
-    let n = records.len() / 4;
-    let tasks = counts.tasks as usize;
-    let fork = events::last_on(records, n, FORK, j.object);
-    let x = raise_found(v, e, tasks, fork);
-    let last = last_joined(records, e, j.object);
-    let y = raise_found(v, e, tasks, last);
-    x | y
-}
-
-// Step 1 for event e. Answers whether any number rose.
-fn step_one(
+// Raises vector e to that of the event kept at place i of the sources. Answers whether any number rose.
+fn raise_source(
     records: &[u8],
     counts: Counts,
-    before: &[u16; MOST_EVENTS],
+    sources: &[u16; SOURCES],
+    i: usize,
     e: usize,
     v: &mut [u16],
 ) -> bool
-    requires { ⌜ Records (now records) counts × Fitting (now records) counts (now v) × Numbered (now records) e × Before (eventsOf (now records)) (now before) ⌝ }
+    requires { ⌜ Records (now records) counts × Fitting (now records) counts (now v) × Numbered (now records) e × Sources (eventsOf (now records)) (now sources) ⌝ }
+    requires { ⌜ i < 3 * length (eventsOf (now records)) ⌝ }
+    ensures { λ _. ⌜ Becomes (λ E X. taken counts X (found (sourceOf (E .events) (i / 3) (i % 3))) e) (now (records .entry)) counts [] (now (v .entry)) (now (v .exit)) ⌝ }
+    ensures { λ r. ⌜ Rose (now (v .entry)) (now (v .exit)) r ⌝ }
+{
+    let from = events::found_below(records.len() / 4, sources[i]);
+    raise_found(v, e, counts.tasks as usize, from)
+}
+
+// Step 1 for event e: its sources, one after another. Answers whether any number rose.
+fn step_one(
+    records: &[u8],
+    counts: Counts,
+    sources: &[u16; SOURCES],
+    e: usize,
+    v: &mut [u16],
+) -> bool
+    requires { ⌜ Records (now records) counts × Fitting (now records) counts (now v) × Numbered (now records) e × Sources (eventsOf (now records)) (now sources) ⌝ }
     ensures { λ _. ⌜ Becomes (λ E X. stepOne E X e) (now (records .entry)) counts [] (now (v .entry)) (now (v .exit)) ⌝ }
     ensures { λ r. ⌜ Rose (now (v .entry)) (now (v .exit)) r ⌝ }
 {
-    let from = events::found_below(records.len() / 4, before[e]);
-    let tasks = counts.tasks as usize;
-    let x = raise_found(v, e, tasks, from);
-    let y = raise_by_join(records, counts, e, v);
-    x | y
-}
-
-// Whether w is a wait on semaphore s that the vectors order before event e.
-fn is_wait_before(
-    records: &[u8],
-    counts: Counts,
-    positions: &[u16],
-    v: &[u16],
-    w: usize,
-    e: usize,
-    s: u16,
-) -> bool
-    requires { ⌜ Placed (now records) counts (now positions) × Fitting (now records) counts (now v) ⌝ }
-    requires { ⌜ Numbered (now records) w × Numbered (now records) e ⌝ }
-    ensures { λ r. ⌜ r ≡ waitBefore (eventsOf (now (records .entry))) (vectorsIn (now (records .entry)) counts (now (v .entry))) e s w ⌝ }
-{
-    if events::is_on(records, w, WAIT, s) {
-        return ordered(records, counts, positions, v, w, e);
-    }
-    false
-}
-
-// Whether a is an event of this kind on object x that the vectors do not order after event e.
-fn is_candidate(
-    records: &[u8],
-    counts: Counts,
-    positions: &[u16],
-    v: &[u16],
-    a: usize,
-    e: usize,
-    kind: u8,
-    x: u16,
-) -> bool
-    requires { ⌜ Placed (now records) counts (now positions) × Fitting (now records) counts (now v) ⌝ }
-    requires { ⌜ Numbered (now records) a × Numbered (now records) e ⌝ }
-    ensures { λ r. ⌜ r ≡ candidate (eventsOf (now (records .entry))) (vectorsIn (now (records .entry)) counts (now (v .entry))) e kind x a ⌝ }
-{
-    if events::is_on(records, a, kind, x) {
-        return !ordered(records, counts, positions, v, e, a);
-    }
-    false
+    let x = raise_source(records, counts, sources, 3 * e, e, v);
+    let y = raise_source(records, counts, sources, 3 * e + 1, e, v);
+    let z = raise_source(records, counts, sources, 3 * e + 2, e, v);
+    x | y | z
 }
 
 // k of a wait e on semaphore s: 1 plus the waits on s ordered before e, lowered by the start count of s; 0 where that is 0
@@ -184,21 +132,23 @@ fn needed(
     counts: Counts,
     levels: &[u8],
     positions: &[u16],
+    chains: &[u16; CHAINS],
     v: &[u16],
     e: usize,
     s: u16,
 ) -> u16
     requires { ⌜ Placed (now records) counts (now positions) × Fitting (now records) counts (now v) × Numbered (now records) e ⌝ }
+    requires { ⌜ Gathered (now records) (now chains) × (s < mostSemaphores) ⌝ }
     ensures { λ r. ⌜ r ≡ over kOf (now (records .entry)) counts (now (levels .entry)) (now (v .entry)) e s ⌝ }
 {
     let n = records.len() / 4;
     let mut k: u16 = 1;
-    let mut w = 0;
+    let mut w = events::first_on(chains, WAIT, s);
     while w < n {
-        if is_wait_before(records, counts, positions, v, w, e, s) {
+        if ordered(records, counts, positions, v, w, e) {
             k += 1;
         }
-        w += 1;
+        w = events::at_place(chains, w);
     }
     let start = events::start_of(levels, counts, s);
     if k <= start {
@@ -212,6 +162,7 @@ fn candidates(
     records: &[u8],
     counts: Counts,
     positions: &[u16],
+    chains: &[u16; CHAINS],
     v: &[u16],
     e: usize,
     kind: u8,
@@ -219,20 +170,20 @@ fn candidates(
     out: &mut [u16],
 ) -> usize
     requires { ⌜ Placed (now records) counts (now positions) × Fitting (now records) counts (now v) × Numbered (now records) e ⌝ }
-    requires { ⌜ mostEvents ≤ length (now out) ⌝ }
+    requires { ⌜ Gathered (now records) (now chains) × (slotOf kind x < slots) × (mostEvents ≤ length (now out)) ⌝ }
     ensures { λ r. ⌜ r ≡ length (candidatesOn (eventsOf (now (records .entry))) (vectorsIn (now (records .entry)) counts (now (v .entry))) e kind x) ⌝ }
     ensures { λ r. ⌜ now (out .exit) ≡ candidatesOn (eventsOf (now (records .entry))) (vectorsIn (now (records .entry)) counts (now (v .entry))) e kind x
         ++ drop r (now (out .entry)) ⌝ }
 {
     let n = records.len() / 4;
     let mut c = 0;
-    let mut a = 0;
+    let mut a = events::first_on(chains, kind, x);
     while a < n {
-        if is_candidate(records, counts, positions, v, a, e, kind, x) {
+        if !ordered(records, counts, positions, v, e, a) {
             out[c] = a as u16;
             c += 1;
         }
-        a += 1;
+        a = events::at_place(chains, a);
     }
     c
 }
@@ -243,6 +194,7 @@ fn raise_wait(
     records: &[u8],
     counts: Counts,
     positions: &[u16],
+    chains: &[u16; CHAINS],
     e: usize,
     kind: u8,
     x: u16,
@@ -250,11 +202,22 @@ fn raise_wait(
     v: &mut [u16],
 ) -> bool
     requires { ⌜ Placed (now records) counts (now positions) × Fitting (now records) counts (now v) × Numbered (now records) e ⌝ }
+    requires { ⌜ Gathered (now records) (now chains) × (slotOf kind x < slots) ⌝ }
     ensures { λ _. ⌜ Becomes (λ E X. waited counts (E .events) X e kind x k) (now (records .entry)) counts [] (now (v .entry)) (now (v .exit)) ⌝ }
     ensures { λ r. ⌜ Rose (now (v .entry)) (now (v .exit)) r ⌝ }
 {
     let mut found = [0u16; MOST_EVENTS];
-    let c = candidates(records, counts, positions, v, e, kind, x, &mut found);
+    let c = candidates(
+        records,
+        counts,
+        positions,
+        chains,
+        v,
+        e,
+        kind,
+        x,
+        &mut found,
+    );
     let tasks = counts.tasks as usize;
     vectors::raise_to_kth(v, e, tasks, &found[..c], k)
 }
@@ -266,21 +229,32 @@ fn step_two(
     counts: Counts,
     levels: &[u8],
     positions: &[u16],
+    chains: &[u16; CHAINS],
     e: usize,
     v: &mut [u16],
 ) -> bool
-    requires { ⌜ Placed (now records) counts (now positions) × Fitting (now records) counts (now v) × Numbered (now records) e ⌝ }
+    requires { ⌜ Placed (now records) counts (now positions) × Fitting (now records) counts (now v) × Numbered (now records) e × Gathered (now records) (now chains) ⌝ }
     ensures { λ _. ⌜ Becomes (λ E X. stepTwo E X e) (now (records .entry)) counts (now (levels .entry)) (now (v .entry)) (now (v .exit)) ⌝ }
     ensures { λ r. ⌜ Rose (now (v .entry)) (now (v .exit)) r ⌝ }
 {
     let w = events::event_at(records, e);
     if w.kind == WAIT {
-        let k = needed(records, counts, levels, positions, v, e, w.object);
-        return raise_wait(records, counts, positions, e, SIGNAL, w.object, k, v);
+        let k = needed(records, counts, levels, positions, chains, v, e, w.object);
+        return raise_wait(
+            records,
+            counts,
+            positions,
+            chains,
+            e,
+            SIGNAL,
+            w.object,
+            k,
+            v,
+        );
     }
     if w.kind == FLAG_WAIT {
         let k = events::post_of(levels, counts, w.object);
-        return raise_wait(records, counts, positions, e, POST, w.object, k, v);
+        return raise_wait(records, counts, positions, chains, e, POST, w.object, k, v);
     }
     false
 }
@@ -291,37 +265,141 @@ fn raise_event(
     counts: Counts,
     levels: &[u8],
     positions: &[u16],
-    before: &[u16; MOST_EVENTS],
+    sources: &[u16; SOURCES],
+    chains: &[u16; CHAINS],
     e: usize,
     v: &mut [u16],
 ) -> bool
-    requires { ⌜ Placed (now records) counts (now positions) × Fitting (now records) counts (now v) × Numbered (now records) e × Before (eventsOf (now records)) (now before) ⌝ }
+    requires { ⌜ Prepared (now records) counts (now positions) (now sources) (now chains) × Fitting (now records) counts (now v) × Numbered (now records) e ⌝ }
     ensures { λ _. ⌜ Becomes (λ E X. raisedEvent E X e) (now (records .entry)) counts (now (levels .entry)) (now (v .entry)) (now (v .exit)) ⌝ }
     ensures { λ r. ⌜ Rose (now (v .entry)) (now (v .exit)) r ⌝ }
 {
-    let x = step_one(records, counts, before, e, v);
-    let y = step_two(records, counts, levels, positions, e, v);
+    let x = step_one(records, counts, sources, e, v);
+    let y = step_two(records, counts, levels, positions, chains, e, v);
     x | y
 }
 
-// One pass. Answers whether any number rose.
+// A stamp for each event, when its vector last changed; one for no event; and one for each slot of the chains, when a vector
+// of its events last changed.
+const STAMPS: usize = 1218;
+
+const NO_EVENT: usize = MOST_EVENTS;
+
+const SLOT_STAMPS: usize = 1025;
+
+// What an event's turn in one pass is before its turn in the next.
+const PASS: u64 = 1024;
+
+// The stamp that tells when a signal or post that serves the event v last changed; for another event that of no event.
+fn served_at(v: Event) -> usize
+    ensures { λ r. ⌜ (r ≡ servedAt v) × (r < stamps) ⌝ }
+{
+    if v.kind == WAIT {
+        return SLOT_STAMPS + (events::slot_of(SIGNAL, v.object) as usize);
+    }
+    if v.kind == FLAG_WAIT {
+        return SLOT_STAMPS + (events::slot_of(POST, v.object) as usize);
+    }
+    NO_EVENT
+}
+
+// Whether nothing that the raising of event e reads has changed from the time `since` on.
+fn still(
+    records: &[u8],
+    sources: &[u16; SOURCES],
+    when: &[u64; STAMPS],
+    e: usize,
+    since: u64,
+) -> bool
+    requires { ⌜ Sources (eventsOf (now records)) (now sources) × Numbered (now records) e × (length (eventsOf (now records)) ≤ mostEvents) × (4 * e + 3 < length (now records)) ⌝ }
+    ensures { λ r. ⌜ r ≡ still (eventsOf (now (records .entry))) (now (sources .entry)) (now (when .entry)) e since ⌝ }
+{
+    let before = sources[3 * e] as usize;
+    let fork = sources[3 * e + 1] as usize;
+    let last = sources[3 * e + 2] as usize;
+    let served = served_at(events::event_at(records, e));
+    (when[e] < since)
+        & (when[before] < since)
+        & (when[fork] < since)
+        & (when[last] < since)
+        & (when[served] < since)
+}
+
+// Notes that the vector of event e changed at this time.
+fn touch(records: &[u8], e: usize, time: u64, when: &mut [u64; STAMPS])
+    requires { ⌜ (4 * e + 3 < length (now records)) × (e < mostEvents) ⌝ }
+    ensures { λ _. ⌜ now (when .exit) ≡ touched (eventIn (eventsOf (now (records .entry))) e) e time (now (when .entry)) ⌝ }
+{
+    let v = events::event_at(records, e);
+    when[e] = time;
+    when[SLOT_STAMPS + (events::slot_of(v.kind, v.object) as usize)] = time;
+}
+
+// The turn of event e in the pass that begins at `base`. Where nothing that its raising reads has changed since its last turn,
+// it is left as it is. Answers whether any number rose.
+fn turn(
+    records: &[u8],
+    counts: Counts,
+    levels: &[u8],
+    positions: &[u16],
+    sources: &[u16; SOURCES],
+    chains: &[u16; CHAINS],
+    base: u64,
+    e: usize,
+    when: &mut [u64; STAMPS],
+    v: &mut [u16],
+) -> bool
+    requires { ⌜ Prepared (now records) counts (now positions) (now sources) (now chains) × Fitting (now records) counts (now v) × Numbered (now records) e ⌝ }
+    requires { ⌜ Timed base × KnownIn (now records) counts (now levels) (now v) (now sources) (now when) base e ⌝ }
+    ensures { λ _. ⌜ Becomes (λ E X. raisedEvent E X e) (now (records .entry)) counts (now (levels .entry)) (now (v .entry)) (now (v .exit)) ⌝ }
+    ensures { λ r. ⌜ Rose (now (v .entry)) (now (v .exit)) r ⌝ }
+    ensures { λ _. ⌜ KnownIn (now (records .entry)) counts (now (levels .entry)) (now (v .exit)) (now (sources .entry)) (now (when .exit)) base (e + 1) ⌝ }
+{
+    let time = base + (e as u64);
+    if still(records, sources, when, e, time - PASS) {
+        return false;
+    }
+    let rose = raise_event(records, counts, levels, positions, sources, chains, e, v);
+    if rose {
+        touch(records, e, time, when);
+    }
+    rose
+}
+
+// One pass, which begins at `base`. Answers whether any number rose.
 fn pass(
     records: &[u8],
     counts: Counts,
     levels: &[u8],
     positions: &[u16],
-    before: &[u16; MOST_EVENTS],
+    sources: &[u16; SOURCES],
+    chains: &[u16; CHAINS],
+    base: u64,
+    when: &mut [u64; STAMPS],
     v: &mut [u16],
 ) -> bool
-    requires { ⌜ Placed (now records) counts (now positions) × Fitting (now records) counts (now v) × Before (eventsOf (now records)) (now before) ⌝ }
+    requires { ⌜ Prepared (now records) counts (now positions) (now sources) (now chains) × Fitting (now records) counts (now v) ⌝ }
+    requires { ⌜ Timed base × KnownIn (now records) counts (now levels) (now v) (now sources) (now when) base 0 ⌝ }
     ensures { λ _. ⌜ Becomes pass (now (records .entry)) counts (now (levels .entry)) (now (v .entry)) (now (v .exit)) ⌝ }
     ensures { λ r. ⌜ Rose (now (v .entry)) (now (v .exit)) r ⌝ }
+    ensures { λ _. ⌜ KnownIn (now (records .entry)) counts (now (levels .entry)) (now (v .exit)) (now (sources .entry)) (now (when .exit)) (base + 1024) 0 ⌝ }
 {
     let n = records.len() / 4;
     let mut changed = false;
     let mut e = 0;
     while e < n {
-        let rose = raise_event(records, counts, levels, positions, before, e, v);
+        let rose = turn(
+            records,
+            counts,
+            levels,
+            positions,
+            sources,
+            chains,
+            base,
+            e,
+            when,
+            v,
+        );
         changed = changed | rose;
         e += 1;
     }
@@ -361,25 +439,39 @@ fn start(records: &[u8], counts: Counts, positions: &[u16], v: &mut [u16])
     }
 }
 
-// Passes until the budget is spent or a pass is quiet.
+// Passes until the budget is spent or a pass is quiet. Before the first, each stamp is so late that every event is raised in it.
 fn passes(
     records: &[u8],
     counts: Counts,
     levels: &[u8],
     positions: &[u16],
-    before: &[u16; MOST_EVENTS],
+    sources: &[u16; SOURCES],
+    chains: &[u16; CHAINS],
     budget: u32,
     v: &mut [u16],
 ) -> Outcome
-    requires { ⌜ Placed (now records) counts (now positions) × Fitting (now records) counts (now v) × Before (eventsOf (now records)) (now before) ⌝ }
+    requires { ⌜ Prepared (now records) counts (now positions) (now sources) (now chains) × Fitting (now records) counts (now v) ⌝ }
     requires { ⌜ now v ≡ flat (start (recordingBy (now records) counts (now levels))) ⌝ }
     ensures { λ r. ⌜ r .passes ≡ run (recordingBy (now (records .entry)) counts (now (levels .entry))) budget .passes ⌝ }
     ensures { λ r. ⌜ r .settled ≡ run (recordingBy (now (records .entry)) counts (now (levels .entry))) budget .settled ⌝ }
     ensures { λ _. ⌜ now (v .exit) ≡ flat (run (recordingBy (now (records .entry)) counts (now (levels .entry))) budget .vectors) ⌝ }
 {
+    let mut when = [PASS - 1; STAMPS];
+    let mut base = PASS;
     let mut made: u32 = 0;
     while made < budget {
-        let changed = pass(records, counts, levels, positions, before, v);
+        let changed = pass(
+            records,
+            counts,
+            levels,
+            positions,
+            sources,
+            chains,
+            base,
+            &mut when,
+            v,
+        );
+        base += PASS;
         made += 1;
         if !changed {
             return Outcome {
@@ -400,17 +492,27 @@ pub fn run(
     counts: Counts,
     levels: &[u8],
     positions: &[u16],
-    before: &[u16; MOST_EVENTS],
+    sources: &[u16; SOURCES],
+    chains: &[u16; CHAINS],
     budget: u32,
     v: &mut [u16],
 ) -> Outcome
-    requires { ⌜ Placed (now records) counts (now positions) × Fitting (now records) counts (now v) × Before (eventsOf (now records)) (now before) ⌝ }
+    requires { ⌜ Prepared (now records) counts (now positions) (now sources) (now chains) × Fitting (now records) counts (now v) ⌝ }
     ensures { λ r. ⌜ r .passes ≡ run (recordingBy (now (records .entry)) counts (now (levels .entry))) budget .passes ⌝ }
     ensures { λ r. ⌜ r .settled ≡ run (recordingBy (now (records .entry)) counts (now (levels .entry))) budget .settled ⌝ }
     ensures { λ _. ⌜ now (v .exit) ≡ flat (run (recordingBy (now (records .entry)) counts (now (levels .entry))) budget .vectors) ⌝ }
 {
     start(records, counts, positions, v);
-    passes(records, counts, levels, positions, before, budget, v)
+    passes(
+        records,
+        counts,
+        levels,
+        positions,
+        sources,
+        chains,
+        budget,
+        v,
+    )
 }
 
 // The signal that event e is matched with. The first waits on a semaphore, as many as its start count, have none, and
@@ -421,11 +523,11 @@ fn take_signal(
     levels: &[u8],
     e: usize,
     unmatched: &mut [u16; SEMAPHORES],
-    chain: &mut [u16; CHAINS],
+    hand: &mut [u16; CHAINS],
 ) -> Found
-    requires { ⌜ Records (now records) counts × Numbered (now records) e × Matching (now records) (levelsBy counts (now levels)) e (now unmatched) (now chain) ⌝ }
+    requires { ⌜ Records (now records) counts × Numbered (now records) e × Matching (now records) (levelsBy counts (now levels)) e (now unmatched) (now hand) ⌝ }
     ensures { λ r. ⌜ (r ≡ matched (levelsBy counts (now (levels .entry))) (eventsOf (now (records .entry))) e) × Below (length (eventsOf (now (records .entry)))) r ⌝ }
-    ensures { λ _. ⌜ Matching (now (records .entry)) (levelsBy counts (now (levels .entry))) (e + 1) (now (unmatched .exit)) (now (chain .exit)) ⌝ }
+    ensures { λ _. ⌜ Matching (now (records .entry)) (levelsBy counts (now (levels .entry))) (e + 1) (now (unmatched .exit)) (now (hand .exit)) ⌝ }
 {
     let w = events::event_at(records, e);
     if w.kind != WAIT {
@@ -437,11 +539,11 @@ fn take_signal(
         return Found::Nothing;
     }
     let head = MOST_EVENTS + x;
-    let a = chain[head] as usize;
+    let a = hand[head] as usize;
     if records.len() / 4 <= a {
         return Found::Nothing;
     }
-    chain[head] = chain[a];
+    hand[head] = hand[a];
     Found::At(a)
 }
 
@@ -450,21 +552,21 @@ fn follow_posts(
     records: &[u8],
     counts: Counts,
     e: usize,
-    posts: &[u16; CHAINS],
+    chains: &[u16; CHAINS],
     g: u16,
     most: u16,
     v: &mut [u16],
 )
-    requires { ⌜ Records (now records) counts × Fitting (now records) counts (now v) × Numbered (now records) e × PostChains (now records) (now posts) × (g < mostFlags) ⌝ }
+    requires { ⌜ Records (now records) counts × Fitting (now records) counts (now v) × Numbered (now records) e × Gathered (now records) (now chains) × (g < mostFlags) ⌝ }
     ensures { λ _. ⌜ Becomes (λ E X. taken counts X (take most (postsOn (E .events) g)) e) (now (records .entry)) counts [] (now (v .entry)) (now (v .exit)) ⌝ }
 {
     let n = records.len() / 4;
     let mut followed: u16 = 0;
-    let mut a = events::at_place(posts, MOST_EVENTS + (g as usize));
+    let mut a = events::first_on(chains, POST, g);
     while (followed < most) & (a < n) {
         vectors::raise_row(v, e, a, counts.tasks as usize);
         followed += 1;
-        a = events::at_place(posts, a);
+        a = events::at_place(chains, a);
     }
 }
 
@@ -474,10 +576,10 @@ fn raise_opened(
     counts: Counts,
     levels: &[u8],
     e: usize,
-    posts: &[u16; CHAINS],
+    chains: &[u16; CHAINS],
     v: &mut [u16],
 )
-    requires { ⌜ Records (now records) counts × Fitting (now records) counts (now v) × Numbered (now records) e × PostChains (now records) (now posts) ⌝ }
+    requires { ⌜ Records (now records) counts × Fitting (now records) counts (now v) × Numbered (now records) e × Gathered (now records) (now chains) ⌝ }
     ensures { λ _. ⌜ Becomes (λ E X. taken counts X (opened (E .levels) (E .events) e) e) (now (records .entry)) counts (now (levels .entry)) (now (v .entry)) (now (v .exit)) ⌝ }
 {
     let w = events::event_at(records, e);
@@ -485,7 +587,7 @@ fn raise_opened(
         return;
     }
     let most = events::post_of(levels, counts, w.object);
-    follow_posts(records, counts, e, posts, w.object, most, v);
+    follow_posts(records, counts, e, chains, w.object, most, v);
 }
 
 // Makes the recorded vector of event e: step 1, for a wait the matched signal, and for a flag wait the first posts.
@@ -493,23 +595,23 @@ fn record_event(
     records: &[u8],
     counts: Counts,
     levels: &[u8],
-    before: &[u16; MOST_EVENTS],
+    sources: &[u16; SOURCES],
+    chains: &[u16; CHAINS],
     e: usize,
     unmatched: &mut [u16; SEMAPHORES],
-    chain: &mut [u16; CHAINS],
-    posts: &[u16; CHAINS],
+    hand: &mut [u16; CHAINS],
     v: &mut [u16],
 )
-    requires { ⌜ Records (now records) counts × Fitting (now records) counts (now v) × Numbered (now records) e × Before (eventsOf (now records)) (now before) ⌝ }
-    requires { ⌜ Matching (now records) (levelsBy counts (now levels)) e (now unmatched) (now chain) × PostChains (now records) (now posts) ⌝ }
+    requires { ⌜ Records (now records) counts × Fitting (now records) counts (now v) × Numbered (now records) e × Sources (eventsOf (now records)) (now sources) ⌝ }
+    requires { ⌜ Gathered (now records) (now chains) × Matching (now records) (levelsBy counts (now levels)) e (now unmatched) (now hand) ⌝ }
     ensures { λ _. ⌜ Becomes (λ E X. recordedEvent E X e) (now (records .entry)) counts (now (levels .entry)) (now (v .entry)) (now (v .exit)) ⌝ }
-    ensures { λ _. ⌜ Matching (now (records .entry)) (levelsBy counts (now (levels .entry))) (e + 1) (now (unmatched .exit)) (now (chain .exit)) ⌝ }
+    ensures { λ _. ⌜ Matching (now (records .entry)) (levelsBy counts (now (levels .entry))) (e + 1) (now (unmatched .exit)) (now (hand .exit)) ⌝ }
 {
-    step_one(records, counts, before, e, v);
-    let signal = take_signal(records, counts, levels, e, unmatched, chain);
+    step_one(records, counts, sources, e, v);
+    let signal = take_signal(records, counts, levels, e, unmatched, hand);
     let tasks = counts.tasks as usize;
     raise_found(v, e, tasks, signal);
-    raise_opened(records, counts, levels, e, posts, v);
+    raise_opened(records, counts, levels, e, chains, v);
 }
 
 // Makes the recorded vectors, in file order.
@@ -518,28 +620,28 @@ fn record_all(
     counts: Counts,
     levels: &[u8],
     positions: &[u16],
-    before: &[u16; MOST_EVENTS],
+    sources: &[u16; SOURCES],
+    chains: &[u16; CHAINS],
     v: &mut [u16],
 )
-    requires { ⌜ Placed (now records) counts (now positions) × Fitting (now records) counts (now v) × Before (eventsOf (now records)) (now before) ⌝ }
+    requires { ⌜ Prepared (now records) counts (now positions) (now sources) (now chains) × Fitting (now records) counts (now v) ⌝ }
     ensures { λ _. ⌜ now (v .exit) ≡ flat (recorded (recordingBy (now (records .entry)) counts (now (levels .entry)))) ⌝ }
 {
     let n = records.len() / 4;
     start(records, counts, positions, v);
     let mut unmatched = [0u16; SEMAPHORES];
-    let mut chain = events::gather(records, SIGNAL, SIGNAL, MOST_SEMAPHORES);
-    let posts = events::gather(records, POST, POST, MOST_FLAGS);
+    let mut hand = *chains;
     let mut e = 0;
     while e < n {
         record_event(
             records,
             counts,
             levels,
-            before,
+            sources,
+            chains,
             e,
             &mut unmatched,
-            &mut chain,
-            &posts,
+            &mut hand,
             v,
         );
         e += 1;
@@ -552,14 +654,23 @@ pub fn record(
     counts: Counts,
     levels: &[u8],
     positions: &[u16],
-    before: &[u16; MOST_EVENTS],
+    sources: &[u16; SOURCES],
+    chains: &[u16; CHAINS],
     v: &mut [u16],
 )
-    requires { ⌜ Placed (now records) counts (now positions) × (length (eventsOf (now records)) * counts .tasks ≤ length (now v)) × Before (eventsOf (now records)) (now before) ⌝ }
+    requires { ⌜ Prepared (now records) counts (now positions) (now sources) (now chains) × (length (eventsOf (now records)) * counts .tasks ≤ length (now v)) ⌝ }
     ensures { λ _. ⌜ now (v .exit) ≡ flat (recorded (recordingBy (now (records .entry)) counts (now (levels .entry))))
         ++ drop (length (eventsOf (now (records .entry))) * counts .tasks) (now (v .entry)) ⌝ }
 {
     let tasks = counts.tasks as usize;
     let nt = records.len() / 4 * tasks;
-    record_all(records, counts, levels, positions, before, &mut v[..nt]);
+    record_all(
+        records,
+        counts,
+        levels,
+        positions,
+        sources,
+        chains,
+        &mut v[..nt],
+    );
 }

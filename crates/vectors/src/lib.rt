@@ -10,17 +10,25 @@ ghost use Rattle.model.specs.Reading.{mostEvents};
 ghost use Rattle.vectors.specs.Rows.{raisedAt, column, ownRow, Rose};
 use model::MOST_EVENTS;
 
-// Raises the number at `at` to y. Answers whether it rose.
+// The larger of two numbers.
+fn larger(x: u16, y: u16) -> u16
+    ensures { λ r. ⌜ r ≡ max x y ⌝ }
+{
+    if x < y {
+        return y;
+    }
+    x
+}
+
+// Raises the number at `at` to y. Answers whether it rose. It is stored in either case: a branch would take longer.
 fn raise_number(v: &mut [u16], at: usize, y: u16) -> bool
     requires { ⌜ at < length (now v) ⌝ }
     ensures { λ _. ⌜ now (v .exit) ≡ set (now (v .entry)) at (max (getD (now (v .entry)) at 0) y) ⌝ }
     ensures { λ r. ⌜ Rose (now (v .entry)) (now (v .exit)) r ⌝ }
 {
-    if v[at] < y {
-        v[at] = y;
-        return true;
-    }
-    false
+    let x = v[at];
+    v[at] = larger(x, y);
+    x < y
 }
 
 // Raises vector `to` to vector `from`, number by number. Answers whether any number rose.
@@ -116,14 +124,21 @@ fn gather(v: &[u16], tasks: usize, t: usize, events: &[u16], out: &mut [u16])
     }
 }
 
-// The larger of `own` and the k-th least of the listed events' numbers for task t.
-fn or_kth_of(v: &[u16], tasks: usize, t: usize, events: &[u16], k: u16, own: u16) -> u16
-    requires { ⌜ (k ≤ length (now events)) × (length (now events) ≤ mostEvents) ⌝ }
+// The larger of `own` and the k-th least of the listed events' numbers for task t, which are gathered in `numbers`.
+fn or_kth_of(
+    v: &[u16],
+    tasks: usize,
+    t: usize,
+    events: &[u16],
+    k: u16,
+    own: u16,
+    numbers: &mut [u16],
+) -> u16
+    requires { ⌜ (k ≤ length (now events)) × (length (now events) ≤ mostEvents) × (mostEvents ≤ length (now numbers)) ⌝ }
     requires { ⌜ ((i : ℕ) → i < length (now events) → getD (now events) i 0 * tasks + t < length (now v)) ⌝ }
     ensures { λ r. ⌜ r ≡ max own (kthLeast k (column tasks (now (v .entry)) t (now (events .entry)))) ⌝ }
 {
-    let mut numbers = [0u16; MOST_EVENTS];
-    gather(v, tasks, t, events, &mut numbers);
+    gather(v, tasks, t, events, numbers);
     let c = events.len();
     or_kth(&numbers[..c], k, own)
 }
@@ -136,11 +151,12 @@ fn raise_each(v: &mut [u16], e: usize, tasks: usize, events: &[u16], k: u16) -> 
     ensures { λ r. ⌜ Rose (now (v .entry)) (now (v .exit)) r ⌝ }
 {
     let at = e * tasks;
+    let mut numbers = [0u16; MOST_EVENTS];
     let mut changed = false;
     let mut t = 0;
     while t < tasks {
         let own = v[at + t];
-        let y = or_kth_of(v, tasks, t, events, k, own);
+        let y = or_kth_of(v, tasks, t, events, k, own, &mut numbers);
         let rose = raise_number(v, at + t, y);
         changed = changed | rose;
         t += 1;

@@ -73,13 +73,15 @@ pub fn fill(
     ensures { λ _. ⌜ now (work .exit) ≡ filled (recordingBy (now (records .entry)) counts (now (levels .entry))) budget (now (work .entry)) ⌝ }
 {
     let half = numbers(records, counts);
-    let before = events::before_each(records);
+    let sources = events::sources(records);
+    let chains = events::gather(records);
     let made = passes::run(
         records,
         counts,
         levels,
         positions,
-        &before,
+        &sources,
+        &chains,
         budget,
         &mut work[..half],
     );
@@ -88,7 +90,8 @@ pub fn fill(
         counts,
         levels,
         positions,
-        &before,
+        &sources,
+        &chains,
         &mut work[half..],
     );
     made

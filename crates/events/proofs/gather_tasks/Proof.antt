@@ -1,12 +1,13 @@
 -- `events::gather_tasks` meets its contract: the chains are those of the events from e on. Assumes nothing.
-use mathlib.Core.Path.{_≡_, sym, _∙_}
+use mathlib.Core.Path.{_≡_}
 use Prim.Native.Nat.{_+_, _*_, _-_, _/_, _≤_, _<_}
 use native.Mathlib.Omega.{arith}
 use lib.ListN.{length, getD}
-use Rattle.model.proofs.Tests.{eqb-true, eq-eqb}
+use Rattle.model.specs.Recording.{eventIn}
+use Rattle.model.specs.File.{eventsOf}
 use Rattle.events.specs.Chains.{byTask, Chained}
 use Rattle.events.proofs.Laws.{task-at}
-use Rattle.events.proofs.Chains.{start, next-put}
+use Rattle.events.proofs.Chains.{start, next-by}
 use Rattle.events.proofs.gather_tasks.Statement.{statement}
 use Rattle.events.proofs.gather_tasks.Tie as tie
 
@@ -31,7 +32,7 @@ loop-again c =
     let e : k .e ≡ k .e - 1 + 1 = omega arith in (
       omega arith,
       rw (c .put-first .ensures)
-          (next-put _ _ _ _ _ (rw e at (k .inv .1)) _ (byte (c .before)) (omega arith) (omega arith) (omega arith) (eq-eqb _ _ t) (λ x q. sym (eqb-true _ x q) ∙ t)),
+          (next-by (λ i. eventIn (eventsOf s) i .task) _ _ _ _ _ (rw e at (k .inv .1)) t (byte (c .before)) (omega arith) (omega arith) (omega arith)),
     )
 
 returns : tie.Need-returns Inv-loop μ-loop

@@ -19,5 +19,5 @@ number-of-spec =
     (λ c. omega (arith, inside (c .before)))
     (λ c. search needs)
     (λ c. search needs)
-    (λ c. sym (c .before .found .given .1 ∙ at-number _ _ (inside (c .before))))
-    (λ c. sym (c .enum-told .given .1 ∙ no-number (c .before .before .args .n) (c .before .before .args .n) (omega arith))))
+    (λ c. (sym (c .before .found .given .1 ∙ at-number _ _ (inside (c .before))), omega (arith, inside (c .before))))
+    (λ c. (sym (c .enum-told .given .1 ∙ no-number (c .before .before .args .n) (c .before .before .args .n) (omega arith)), omega arith)))

@@ -1,65 +1,104 @@
--- candidates meets its contract: those picked so far are in front, and behind them is what was there.
+-- candidates meets its contract: in the walk those picked so far are in front, and behind them is what was there.
 -- Assumes nothing.
 use mathlib.Core.Path.{_≡_, refl, sym, ap, _∙_}
 use mathlib.Core.Logic.{⊎-elim}
+use mathlib.Core.Bool.{Bool, not}
 use mathlib.Core.List.{List, [], _∷_, _++_}
-use Prim.Native.Nat.{ℕ, _-_, _≤_, _<_}
+use Prim.Native.Nat.{ℕ, _+_, _-_, _≤_, _<_}
 use native.Mathlib.Omega.{arith}
-use lib.ListN.{length, drop, set, length-set, length-append}
+use borrow.Author.Needs.{needs}
+use lib.ListN.{length, getD, drop, set, length-set, length-append}
 use Rattle.model.specs.Numbers.{picked}
 use Rattle.model.specs.File.{eventsOf}
+use Rattle.model.specs.Vectors.{Vectors, ordered}
+use Rattle.events.specs.Chains.{slotOf, head, onAt, Nearest, Chain}
 use Rattle.passes.specs.Lent.{vectorsIn}
 use Rattle.passes.specs.Steps.{candidate}
+use Rattle.passes.proofs.Tests.{and-passed}
 use Rattle.passes.proofs.Waits.{picked-start, picked-hit, picked-miss, pick-one, candidates-all}
+use Rattle.passes.proofs.Walks.{arrived, picked-leap}
 use Rattle.passes.proofs.candidates.Statement.{statement}
 use Rattle.passes.proofs.candidates.Tie as tie
 
 abbrev Inv-loop : tie.InvT-loop
-Inv-loop records counts positions v e kind x out₀ n c₀ a₀ out c a =
-    (a ≤ n)
+Inv-loop records counts positions chains v e kind x out₀ n c₀ a₀ out c a =
+    Nearest (onAt records kind x) (length (eventsOf records)) a a
     × (c ≤ a)
     × (length out ≡ length out₀)
     × (c ≡ length (picked (candidate (eventsOf records) (vectorsIn records counts v) e kind x) a))
     × (out ≡ picked (candidate (eventsOf records) (vectorsIn records counts v) e kind x) a ++ drop c out₀)
 
 abbrev μ-loop : tie.MeasureT-loop
-μ-loop records counts positions v e kind x out₀ n c₀ a₀ out c a = n - a
+μ-loop records counts positions chains v e kind x out₀ n c₀ a₀ out c a = n - a
+
+module _ (s : tie.Start Inv-loop μ-loop) where
+  abbrev X : Vectors
+  X = vectorsIn (s .args .records .now) (s .args .counts) (s .args .v .now)
+
+  abbrev test : ℕ → Bool
+  test = candidate (eventsOf (s .args .records .now)) X (s .args .e) (s .args .kind) (s .args .x)
+
+  -- behind the test of kind and object
+  abbrev behind : ℕ → Bool
+  behind a = not (ordered (eventsOf (s .args .records .now)) X (s .args .e) a)
+
+  -- the chain of the events of this kind on x
+  chain : Chain (onAt (s .args .records .now) (s .args .kind) (s .args .x)) (length (eventsOf (s .args .records .now))) (head (slotOf (s .args .kind) (s .args .x))) (s .args .chains .now)
+  chain = s .pre .1 .0 .each (s .args .kind) (s .args .x) (s .pre .1 .1)
 
 loop-holds : tie.Need-loop-holds Inv-loop μ-loop
 loop-holds c =
-    let r = c .before .before .before .before .args in
-    let p = candidate (eventsOf (r .records .now)) (vectorsIn (r .records .now) (r .counts) (r .v .now)) (r .e) (r .kind) (r .x) in
-    rw (picked-start p) (omega arith, omega arith, refl, refl, refl)
+    let s = c .before .before .before .before .before in
+    let f : Nearest (onAt (s .args .records .now) (s .args .kind) (s .args .x)) (length (eventsOf (s .args .records .now))) 0 (c .first-on .result) = rw (c .first-on .ensures) (chain s .first) in
+    rw (picked-leap f (behind s) ∙ picked-start (test s)) (arrived f, omega arith, refl, refl, refl)
+
+-- at one of them
+module _ (c : tie.In-loop Inv-loop μ-loop) where
+  abbrev k : tie.At-loop Inv-loop μ-loop
+  k = c .before
+
+  abbrev s : tie.Start Inv-loop μ-loop
+  s = k .before .before .before .before .before .before
+
+  inside : k .loop .a < length (eventsOf (s .args .records .now))
+  inside = omega (arith, s .pre .0 .0 .records .whole)
+
+  next : Nearest (onAt (s .args .records .now) (s .args .kind) (s .args .x)) (length (eventsOf (s .args .records .now))) (k .loop .a + 1) (getD (s .args .chains .now) (k .loop .a) 0)
+  next = chain s .next (k .loop .a) inside (k .loop .inv .0 .hit inside)
 
 loop-again : tie.Need-loop-again Inv-loop μ-loop
 loop-again c =
-    let r = c .before .before .before .before .before .before .before .before .args in
-    let k = c .before .before .before .loop in
-    let f = c .before .is-candidate in
-    let p = candidate (eventsOf (r .records .now)) (vectorsIn (r .records .now) (r .counts) (r .v .now)) (r .e) (r .kind) (r .x) in
-    let room : k .c < length (r .out .now) = omega arith in
-    ⊎-elim
+    let d = c .before .before .before .before in
+    let r = s d .args in
+    let k = k d .loop in
+    let p = test (s d) in
+    let f = next d in
+    let leap = picked-leap f (behind (s d)) in
+    let here = and-passed (onAt (r .records .now) (r .kind) (r .x) (k .a)) _ _ (k .inv .0 .hit (inside d)) (ap not (c .before .before .before .ordered .ensures)) in
+    let room : k .c < length (r .out .now) = omega (arith, inside d, s d .pre .0 .0 .records .few, s d .pre .1 .2) in
+    rw (c .at-place .ensures) (⊎-elim
     (λ w.
-    let q = picked-hit p (k .a) (sym (f .ensures) ∙ w .0 .taken) in
+    let q = leap ∙ picked-hit p (k .a) (sym here ∙ w .0 .taken) in
     rw (w .1, w .2, q) (
-      omega arith,
-      omega arith,
+      arrived f,
+      omega (arith, f .low),
       simp length-set (k .inv .2),
       omega (arith, k .inv .3, length-append (picked p (k .a)) (k .a ∷ [])),
       ap (λ (l : List ℕ). set l (k .c) (k .a)) (k .inv .4) ∙ pick-one (picked p (k .a)) (r .out .now) (k .c) (k .a) (k .inv .3) room,
     ))
     (λ w.
-    let q = picked-miss p (k .a) (sym (f .ensures) ∙ w .0 .left) in
-    rw (w .1, w .2, q) (omega arith, omega arith, k .inv .2, k .inv .3, k .inv .4))
-    (c .if1 .came)
+    let q = leap ∙ picked-miss p (k .a) (sym here ∙ w .0 .left) in
+    rw (w .1, w .2, q) (arrived f, omega (arith, f .low), k .inv .2, k .inv .3, k .inv .4))
+    (c .before .before .if1 .came))
 
 returns : tie.Need-returns Inv-loop μ-loop
 returns c =
-    let r = c .before .before .before .before .before .before .args in
+    let s = c .before .before .before .before .before .before .before in
+    let r = s .args in
     let k = c .before .loop in
     let l = eventsOf (r .records .now) in
-    let q : k .a ≡ length l = omega arith in
-    let z = candidates-all l (vectorsIn (r .records .now) (r .counts) (r .v .now)) (r .e) (r .kind) (r .x) (k .a) q in
+    let q : k .a ≡ length l = omega (arith, k .inv .0 .high, s .pre .0 .0 .records .whole) in
+    let z = candidates-all l (X s) (r .e) (r .kind) (r .x) (k .a) q in
     (k .inv .3 ∙ ap length z, k .inv .4 ∙ ap (λ (l : List ℕ). l ++ drop (k .c) (r .out .now)) z)
 
 pub candidates-spec : {M : Type 1} → statement M
@@ -68,14 +107,15 @@ candidates-spec =
     (tie.spec
     Inv-loop
     μ-loop
+    (λ c κs. search needs)
     loop-holds
-    (λ c κs. let p = c .before .before .before .before .before .before .pre .0 in ((p .0, p .1), (omega arith, p .2)))
+    (λ c κs. let p = c .before .before .before .before .before .before .before .pre .0 in ((p .0, p .1), (p .2, omega (arith, p .0 .records .whole))))
+    (λ c. let p = c .before .before .before .before .before .before .before .before .before .pre .0 in omega (arith, p .0 .records .whole, p .0 .records .few))
     (λ c. omega arith)
-    (λ c. omega arith)
-    (λ c. omega arith)
-    (λ c. omega arith)
-    (λ c. omega arith)
-    (λ c. omega arith)
+    (λ c. let p = c .before .before .before .before .before .before .before .before .before .pre in omega (arith, p .0 .0 .records .whole, p .0 .0 .records .few, p .1 .2))
+    (λ c. let p = c .before .before .before .before .before .before .before .before .before .pre .0 in omega (arith, p .0 .records .whole, p .0 .records .few))
+    (λ c κs. let p = c .before .before .before .before .before .before .before .before .before .before .pre in omega (arith, p .1 .0 .wide, p .0 .0 .records .whole, p .0 .0 .records .few))
+    (λ c. let d = c .before .before .before .before in omega (arith, c .at-place .ensures, next d .low, next d .high, s d .pre .0 .0 .records .whole))
     loop-again
-    (λ c. omega arith)
+    (λ c. omega (arith, c .before .loop .inv .2))
     returns)

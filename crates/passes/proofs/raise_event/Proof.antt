@@ -20,7 +20,7 @@ pub raise-event-spec : {M : Type 1} → statement M
 raise-event-spec =
     tie.close
     (tie.spec
-    (λ c κs. let p = c .before .before .before .before .before .pre in (p .0 .records, p .1, p .2, p .3))
-    (λ c κs. let p = c .before .before .before .before .before .before .before .before .before .pre in (p .0, c .before .before .before .step-one .kept .1 .1 .1 .1 .0 ∙ p .1, p .2))
+    (λ c κs. let p = c .before .before .before .before .before .pre in (p .0 .placed .records, p .1, p .2, p .0 .sourced))
+    (λ c κs. let p = c .before .before .before .before .before .before .before .before .before .pre in (p .0 .placed, c .before .before .before .step-one .kept .1 .1 .1 .1 .0 ∙ p .1, p .2, p .0 .linked))
     (λ c. omega arith)
     returns)

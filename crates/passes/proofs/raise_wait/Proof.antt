@@ -22,14 +22,14 @@ listed c =
     let a = c .before .before .before .before .before .before .args in
     candidatesOn (eventsOf (a .records .now)) (vectorsIn (a .records .now) (a .counts) (a .v .now)) (a .e) (a .kind) (a .x)
 
-the-found : (c : tie.After-candidates) → take (c .candidates .result) (c .candidates .last .1 .1 .1 .1 .1 .1 .1 .0) ≡ listed c
+the-found : (c : tie.After-candidates) → take (c .candidates .result) (c .candidates .last .1 .1 .1 .1 .1 .1 .1 .1 .0) ≡ listed c
 the-found c = ap (take (c .candidates .result)) (c .candidates .ensures .1) ∙ take-at (listed c) _ _ (sym (c .candidates .ensures .0))
 
 few : (c : tie.After-candidates) → c .candidates .result ≤ 1024
 few c =
     let s = c .before .before .before .before .before .before in
     let a = s .args in
-    omega (arith, c .candidates .ensures .0, candidates-few (eventsOf (a .records .now)) (vectorsIn (a .records .now) (a .counts) (a .v .now)) (a .e) (a .kind) (a .x), s .pre .0 .records .few)
+    omega (arith, c .candidates .ensures .0, candidates-few (eventsOf (a .records .now)) (vectorsIn (a .records .now) (a .counts) (a .v .now)) (a .e) (a .kind) (a .x), s .pre .0 .0 .records .few)
 
 raise-to-kth-requires : tie.Need-raise-to-kth-requires
 raise-to-kth-requires c κs =
@@ -40,8 +40,8 @@ raise-to-kth-requires c κs =
     let X = vectorsIn (a .records .now) (a .counts) (a .v .now) in
     let m = a .counts .tasks in
     rw (the-found d) (
-      (omega (arith, next-row (a .e) (length l) m (s .pre .2), s .pre .1), omega (arith, few d, d .candidates .ensures .0)),
-      λ i h. omega (arith, next-row _ (length l) m (candidates-below l X (a .e) (a .kind) (a .x) i h), s .pre .1),
+      (omega (arith, next-row (a .e) (length l) m (s .pre .0 .2), s .pre .0 .1), omega (arith, few d, d .candidates .ensures .0)),
+      λ i h. omega (arith, next-row _ (length l) m (candidates-below l X (a .e) (a .kind) (a .x) i h), s .pre .0 .1),
     )
 
 returns : tie.Need-returns
@@ -52,7 +52,7 @@ returns c =
     let l = eventsOf (a .records .now) in
     let f = c .before .before .raise-to-kth in (
       ap (chunks (length l) (a .counts .tasks)) (f .ensures .0)
-          ∙ chunks-waited (a .counts) l (a .v .now) (a .e) (a .kind) (a .x) (a .k) _ (s .pre .1) (s .pre .2) (the-found d),
+          ∙ chunks-waited (a .counts) l (a .v .now) (a .e) (a .kind) (a .x) (a .k) _ (s .pre .0 .1) (s .pre .0 .2) (the-found d),
       f .ensures .1,
     )
 
@@ -61,7 +61,7 @@ raise-wait-spec =
     tie.close
     (tie.spec
     (λ c. search needs)
-    (λ c κs. (c .before .before .before .before .before .pre, search needs))
+    (λ c κs. let p = c .before .before .before .before .before .pre in (p .0, (p .1 .0, p .1 .1, search needs)))
     (λ c. search needs)
     (λ c. omega (arith, few (c .before .before .before)))
     (λ c. c .before .before .before .before .candidates .ensures .0 ∙ ap length (sym (the-found (c .before .before .before .before))))

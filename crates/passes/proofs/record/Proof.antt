@@ -18,7 +18,7 @@ module _ (s : tie.Start) where
 
   as-many : numbers ≡ length (eventsOf (s .args .records .now)) * s .args .counts .tasks
   as-many =
-      let n : length (s .args .records .now) / 4 ≡ length (eventsOf (s .args .records .now)) = omega (arith, s .pre .0 .records .whole) in
+      let n : length (s .args .records .now) / 4 ≡ length (eventsOf (s .args .records .now)) = omega (arith, s .pre .0 .placed .records .whole) in
       ap (λ (n : ℕ). n * s .args .counts .tasks) n
 
   fits : numbers ≤ length (s .args .v .now)
@@ -30,7 +30,7 @@ module _ (s : tie.Start) where
 record-all-requires : tie.Need-record-all-requires
 record-all-requires c κs =
     let s = c .before .before .before .before .before .before in
-    (s .pre .0, part-length s ∙ as-many s, s .pre .2)
+    (s .pre .0, part-length s ∙ as-many s)
 
 returns : tie.Need-returns
 returns c =

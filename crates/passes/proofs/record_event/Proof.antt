@@ -52,9 +52,9 @@ record-event-spec =
     tie.close
     (tie.spec
     (λ c κs. c .before .before .before .before .pre .0)
-    (λ c κs. let s = c .before .before .before .before .before .before .before .before .before in (s .pre .0 .0, s .pre .0 .2, s .pre .1 .0))
+    (λ c κs. let s = c .before .before .before .before .before .before .before .before .before in (s .pre .0 .0, s .pre .0 .2, s .pre .1 .1))
     (λ c. search needs)
     raise-found-requires
-    (λ c κs. let s = c .before .before .before .before .before .before .before .before .before .before .before .before .before .before .before .before in (s .pre .0 .0, long (c .before .before .before) ∙ s .pre .0 .1, s .pre .0 .2, s .pre .1 .1))
+    (λ c κs. let s = c .before .before .before .before .before .before .before .before .before .before .before .before .before .before .before .before in (s .pre .0 .0, long (c .before .before .before) ∙ s .pre .0 .1, s .pre .0 .2, s .pre .1 .0))
     (λ c. omega arith)
     returns)

@@ -11,13 +11,13 @@ passes-requires : tie.Need-passes-requires
 passes-requires c κs =
     let s = c .before .before .before .before .before .before .before .before .before in
     let x = c .before .before .before .start in
-    ((s .pre .0, x .kept .1 .1 .1 .0 ∙ s .pre .1, s .pre .2), x .ensures ∙ ap flat (start-levels (s .args .records .now) (s .args .counts) (s .args .levels .now)))
+    ((s .pre .0, x .kept .1 .1 .1 .0 ∙ s .pre .1), x .ensures ∙ ap flat (start-levels (s .args .records .now) (s .args .counts) (s .args .levels .now)))
 
 pub run-spec : {M : Type 1} → statement M
 run-spec =
     tie.close
     (tie.spec
-    (λ c κs. let s = c .before .before .before .before .before in (s .pre .0, s .pre .1))
+    (λ c κs. let s = c .before .before .before .before .before in (s .pre .0 .placed, s .pre .1))
     passes-requires
     (λ c. omega arith)
     (λ c. c .before .before .passes .ensures))

@@ -1,9 +1,11 @@
 -- step_two meets its contract: a wait of either kind is raised by what serves it; any other event needs none, and is raised to nothing.
 -- Assumes nothing.
-use mathlib.Core.Path.{ap, _∙_}
+use mathlib.Core.Path.{_≡_, sym, ap, _∙_}
+use Prim.Native.Nat.{_<_}
 use native.Mathlib.Omega.{arith}
 use borrow.Author.Needs.{needs}
-use Rattle.model.specs.Recording.{Recording, size}
+use Rattle.model.specs.declared.Event.{Event}
+use Rattle.model.specs.Recording.{Recording, size, eventIn, wait, flagWait}
 use Rattle.model.specs.File.{recordingBy}
 use Rattle.model.specs.Vectors.{Vectors}
 use Rattle.model.specs.Passes.{serving}
@@ -11,6 +13,7 @@ use Rattle.vectors.proofs.Chunks.{chunks-shaped}
 use Rattle.vectors.proofs.Rising.{rose-none}
 use Rattle.passes.specs.Lent.{vectorsIn}
 use Rattle.passes.proofs.Waits.{wait-raised, needed-wait, needed-flag, other-kept}
+use Rattle.passes.proofs.Walks.{has-slots}
 use Rattle.passes.proofs.step_two.Statement.{statement}
 use Rattle.passes.proofs.step_two.Tie as tie
 
@@ -24,6 +27,36 @@ module _ (t : tie.After-event-at) where
 
   abbrev X : Vectors
   X = vectorsIn (s .args .records .now) (s .args .counts) (s .args .v .now)
+
+  -- a wait is on a semaphore below 64, a flag wait on a flag below 64
+  same : t .event-at .result .object ≡ eventIn (E .events) (s .args .e) .object
+  same = ap (λ (v : Event). v .object) (t .event-at .ensures)
+
+  on-semaphore : t .event-at .result .kind ≡ wait → t .event-at .result .object < 64
+  on-semaphore q = omega (arith, same, s .pre .0 .records .waits (s .args .e) (s .pre .2) (sym (ap (λ (v : Event). v .kind) (t .event-at .ensures)) ∙ q))
+
+  on-flag : t .event-at .result .kind ≡ flagWait → t .event-at .result .object < 64
+  on-flag q = omega (arith, same, s .pre .0 .records .flag-waits (s .args .e) (s .pre .2) (sym (ap (λ (v : Event). v .kind) (t .event-at .ensures)) ∙ q))
+
+needed-requires : tie.Need-needed-requires
+needed-requires c κs =
+    let t = c .before .before .before in
+    let p = s t .pre in
+    ((p .0, p .1, p .2), (p .3, on-semaphore t (c .before .if1 .taken)))
+
+raise-wait-requires : tie.Need-raise-wait-requires
+raise-wait-requires c κs =
+    let t = c .before .before .before .before .before in
+    let p = s t .pre in
+    let x = on-semaphore t (c .before .before .before .if1 .taken) in
+    ((p .0, p .1, p .2), (p .3, omega (arith, has-slots _ x)))
+
+raise-wait-requires-2 : tie.Need-raise-wait-requires-2
+raise-wait-requires-2 c κs =
+    let t = c .before .before .before .before .before .before in
+    let p = s t .pre in
+    let g = on-flag t (c .before .before .if2 .taken) in
+    ((p .0, p .1, p .2), (p .3, omega (arith, has-slots _ g)))
 
 returns : tie.Need-returns
 returns c =
@@ -55,12 +88,12 @@ step-two-spec =
     tie.close
     (tie.spec
     (λ c κs. omega (arith, c .before .before .before .before .pre .0 .records .whole))
-    (λ c κs. c .before .before .before .before .before .before .before .before .pre)
-    (λ c κs. c .before .before .before .before .before .before .before .before .before .before .pre)
+    needed-requires
+    raise-wait-requires
     (λ c. omega arith)
     returns
     (λ c κs. search needs)
-    (λ c κs. c .before .before .before .before .before .before .before .before .before .before .before .pre)
+    raise-wait-requires-2
     (λ c. omega arith)
     returns-2
     returns-3)

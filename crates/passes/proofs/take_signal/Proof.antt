@@ -80,8 +80,8 @@ module _ (c : tie.Else1) where
   abbrev Hand : ℕ → ℕ → Type 0
   Hand w a = AtHand (signalAt (s .args .records .now) object) (length (eventsOf (s .args .records .now))) w a
 
-  hand : Hand (waits object - first object) (getD (s .args .chain .now) (head object) 0)
-  hand = s .pre .2 .heads object small
+  ready : Hand (waits object - first object) (getD (s .args .hand .now) (head object) 0)
+  ready = s .pre .2 .heads object small
 
   early-match : unmatched < first object → Found.Nothing ≡ matched (E .levels) (E .events) (s .args .e)
   early-match h =
@@ -110,7 +110,7 @@ module _ (c : tie.Else2) where
 
   -- the state after it, by what is at hand then
   hand-then : (a : ℕ) → Hand d (waits d (object d) - first d (object d) + 1) a
-      → Matching (s d .args .records .now) (levelsBy (s d .args .counts) (s d .args .levels .now)) (s d .args .e + 1) (s d .args .unmatched .now) (set (s d .args .chain .now) (head (object d)) a)
+      → Matching (s d .args .records .now) (levelsBy (s d .args .counts) (s d .args .levels .now)) (s d .args .e + 1) (s d .args .unmatched .now) (set (s d .args .hand .now) (head (object d)) a)
   hand-then a n = next-later _ _ _ _ _ (s d .pre .2) (object d) (small d) (waiting d) later a n (s d .pre .0 .few)
 
 returns-3 : tie.Need-returns-3
@@ -118,13 +118,13 @@ returns-3 c =
     let g = c .before .before in
     let d = d g in
     let r = s d .args .records .now in
-    let n : length (eventsOf r) ≤ getD (s d .args .chain .now) (head (object d)) 0 = omega (arith, s d .pre .0 .whole) in (
-      (later-match d (later g) _ (hand-none r signal (object d) _ _ (hand d) n), tt),
-      rw (set-getD (s d .args .chain .now) (head (object d)) 0) at (hand-then g _ (none-next (signalAt r (object d)) _ _ _ n (hand d))),
+    let n : length (eventsOf r) ≤ getD (s d .args .hand .now) (head (object d)) 0 = omega (arith, s d .pre .0 .whole) in (
+      (later-match d (later g) _ (hand-none r signal (object d) _ _ (ready d) n), tt),
+      rw (set-getD (s d .args .hand .now) (head (object d)) 0) at (hand-then g _ (none-next (signalAt r (object d)) _ _ _ n (ready d))),
     )
 
 -- a signal is at hand
-at-hand : (c : tie.Else3) → getD (s (d (c .before .before)) .args .chain .now) (head (object (d (c .before .before)))) 0 < length (eventsOf (s (d (c .before .before)) .args .records .now))
+at-hand : (c : tie.Else3) → getD (s (d (c .before .before)) .args .hand .now) (head (object (d (c .before .before)))) 0 < length (eventsOf (s (d (c .before .before)) .args .records .now))
 at-hand c = let g = c .before .before in omega (arith, s (d g) .pre .0 .whole)
 
 returns-4 : tie.Need-returns-4
@@ -133,8 +133,8 @@ returns-4 c =
     let d = d g in
     let r = s d .args .records .now in
     let l = at-hand (c .before) in (
-      (later-match d (later g) _ (hand-at r signal (object d) _ _ (hand d) l), l),
-      hand-then g _ (taken-next _ _ _ _ _ (s d .pre .2) (object d) _ _ (small d) l (hand d)),
+      (later-match d (later g) _ (hand-at r signal (object d) _ _ (ready d) l), l),
+      hand-then g _ (taken-next _ _ _ _ _ (s d .pre .2) (object d) _ _ (small d) l (ready d)),
     )
 
 pub take-signal-spec : {M : Type 1} → statement M
@@ -155,7 +155,7 @@ take-signal-spec =
     (λ c. search needs)
     (λ c. search needs)
     (λ c. omega (arith, small (d c)))
-    (λ c. let e = d (c .before) in omega (arith, hand e .high, s e .pre .0 .few))
+    (λ c. let e = d (c .before) in omega (arith, ready e .high, s e .pre .0 .few))
     returns-3
     (λ c. omega (arith, at-hand c, s (d (c .before .before)) .pre .0 .few))
     (λ c. omega (arith, at-hand c, s (d (c .before .before)) .pre .0 .few))
