@@ -1,0 +1,4 @@
+mod Laying
+mod Looking
+mod Telling
+pub mod Calls
