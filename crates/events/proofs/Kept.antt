@@ -1,7 +1,7 @@
--- Laws of what is kept: one more place written, a found event as a number and back, and the forks. Assumes nothing.
+-- Laws of what is kept: one more place written, the sources, a found event as a number and back, and the forks. Assumes nothing.
 use mathlib.Core.Path.{_≡_, refl, sym, ap, ap₂, subst, _∙_}
 use mathlib.Core.Bool.{Bool, true, false, _&&_}
-use mathlib.Core.List.{List}
+use mathlib.Core.List.{List, _++_}
 use Prim.Native.Nat.{ℕ, zero, suc, _+_, _*_, _/_, _%_, _≤_, _<_, zero-le}
 use native.Mathlib.Omega.{arith}
 use lib.Dec.{ltb, eqb}
@@ -9,10 +9,10 @@ use lib.ListN.{length, getD, set, replicate, length-set, length-replicate, getD-
 use lib.Seq.{getD-set-same, getD-set-other}
 use Rattle.model.specs.declared.Event.{Event}
 use Rattle.model.specs.declared.Found.{Found}
-use Rattle.model.specs.Numbers.{lastOf}
+use Rattle.model.specs.Numbers.{found, lastOf}
 use Rattle.model.specs.Recording.{eventIn, ofTask, isFork, fork, join}
 use Rattle.model.specs.File.{eventsOf}
-use Rattle.model.specs.Passes.{previous, forkOf, firstFound}
+use Rattle.model.specs.Passes.{previous, forkOf, sources, firstFound}
 use Rattle.model.proofs.Tests.{cases, clash, fails, both, first, second, and-fails, compared, tests, eqb-true, ltb-true, ltb-false, lt-ltb, le-ltb, eq-eqb, ne-eqb}
 use Rattle.model.proofs.Sources.{last-some}
 use Rattle.events.specs.Kept.{KeptTasks, Below, foundBelow, ForksTo, ofJoin, sourceOf}
@@ -98,12 +98,18 @@ module _ (l : List Event) (e : ℕ) (v : Event) (f : Found) (q : v ≡ eventIn l
   pub of-join : v .kind ≡ join → f ≡ ofJoin l e f
   of-join h = rw (eq-eqb (eventIn l e .kind) join (sym (ap (λ (w : Event). w .kind) q) ∙ h))
 
+-- a place of the sources tells the event and which of its three it is
+pub place-of : (i e j : ℕ) → i ≡ 3 * e + j → j < 3 → (i / 3 ≡ e) × (i % 3 ≡ j)
+place-of i e j q h = (omega arith, omega arith)
+
 -- source j of e stands at its place
 pub source-at : (l : List Event) (e j i : ℕ) (f g : Found) → i ≡ 3 * e + j → j < 3 → f ≡ g → g ≡ sourceOf l e j → f ≡ sourceOf l (i / 3) (i % 3)
-source-at l e j i f g p h q r =
-    let a : i / 3 ≡ e = omega arith in
-    let b : i % 3 ≡ j = omega arith in
-    rw (a, b) (q ∙ r)
+source-at l e j i f g p h q r = let (a, b) = place-of i e j p h in rw (a, b) (q ∙ r)
+
+-- the sources of e are these three
+pub three-sources : (l : List Event) (e : ℕ) → sources l e ≡ found (sourceOf l e 0) ++ (found (sourceOf l e 1) ++ found (sourceOf l e 2))
+unfolding sources sourceOf
+three-sources l e = cases (eqb (eventIn l e .kind) join) (λ t. rw t) (λ t. rw t)
 
 -- ---- a found event as a number
 

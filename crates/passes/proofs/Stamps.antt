@@ -12,16 +12,17 @@ use lib.ListN.{length, getD, set, replicate, length-set, length-replicate, getD-
 use lib.Seq.{getD-set-same, getD-set-other, set-getD}
 use Rattle.model.specs.declared.Event.{Event}
 use Rattle.model.specs.Numbers.{found}
-use Rattle.model.specs.Recording.{Recording, size, event, eventIn, kindOf, objectOf, isOn, signal, wait, join, post}
+use Rattle.model.specs.Recording.{Recording, size, event, eventIn, kindOf, objectOf, isOn, signal, wait, post}
 use Rattle.model.specs.Vectors.{Vectors}
 use Rattle.model.specs.Reading.{mostSemaphores, mostFlags, mostEvents}
-use Rattle.model.specs.Passes.{forkOf, lastEvent, beforeOrFork, joinSources, sources, eventsOn, serving, raised}
+use Rattle.model.specs.Passes.{sources, eventsOn, serving, raised}
 use Rattle.model.specs.Raising.{Waiting, Reads}
 use Rattle.model.proofs.Tests.{cases, both, first, second, eqb-true, eqb-false, ltb-true, ltb-false, lt-ltb}
 use Rattle.model.proofs.Picked.{picked-mem}
 use Rattle.model.proofs.Raising.{raised-apart}
-use Rattle.events.specs.Kept.{foundBelow, ofJoin, sourceOf, Sources}
+use Rattle.events.specs.Kept.{foundBelow, sourceOf, Sources}
 use Rattle.events.specs.Chains.{slots, slotOf}
+use Rattle.events.proofs.Kept.{place-of, three-sources}
 use Rattle.events.proofs.Chains.{slot-passed}
 use Rattle.passes.specs.Stamps.{stamps, slotStamp, servedAt, below, still, touched, Known}
 use Rattle.passes.specs.Steps.{raisedEvent}
@@ -51,25 +52,17 @@ served-stamp E e (inr q) = rw q
 kept-only : (n x a : ℕ) → List·Memᴰ a (found (foundBelow n x)) → a ≡ x
 kept-only n x a m = cases (ltb x n) (λ t. List·Memᴰ·eq-of-singleton (rw t at m)) (λ t. absurd (List·Memᴰ·not-nil (rw t at m)))
 
-joined : (l : List Event) (e : ℕ) → joinSources l e (eqb (eventIn l e .kind) join)
-    ≡ found (ofJoin l e (forkOf l (eventIn l e .object))) ++ found (ofJoin l e (lastEvent l (eventIn l e .object)))
-joined l e = cases (eqb (eventIn l e .kind) join) (λ t. rw t) (λ t. rw t)
-
 module _ (l : List Event) (kept : List ℕ) (k : Sources l kept) (e : ℕ) (h : e < length l) where
   source-at : (j i a : ℕ) → j < 3 → i ≡ 3 * e + j → List·Memᴰ a (found (sourceOf l e j)) → a ≡ getD kept i 0
-  source-at j i a q r m =
-      let d : i / 3 ≡ e = omega arith in
-      let o : i % 3 ≡ j = omega arith in
-      kept-only (length l) (getD kept i 0) a (rw (k .source i (omega arith), d, o) m)
+  source-at j i a q r m = let (d, o) = place-of i e j r q in kept-only (length l) (getD kept i 0) a (rw (k .source i (omega arith), d, o) m)
 
   -- what holds of the three kept numbers holds of each source
   each-source : (P : ℕ → Type 0) → P (getD kept (3 * e) 0) → P (getD kept (3 * e + 1) 0) → P (getD kept (3 * e + 2) 0) → (a : ℕ) → List·Memᴰ a (sources l e) → P a
-  unfolding sources sourceOf
   each-source P x y z a m =
-      let of-join : List·Memᴰ a (joinSources l e (eqb (eventIn l e .kind) join)) → P a = λ w.
+      let of-join : List·Memᴰ a (found (sourceOf l e 1) ++ found (sourceOf l e 2)) → P a = λ w.
       ⊎-elim (λ u. rw (source-at 1 (3 * e + 1) a (omega arith) refl u) y) (λ u. rw (source-at 2 (3 * e + 2) a (omega arith) refl u) z)
-      (List·Memᴰ·append-cases (found (ofJoin l e (forkOf l (eventIn l e .object)))) (rw (joined l e) at w)) in
-      ⊎-elim (λ u. rw (source-at 0 (3 * e) a (omega arith) (omega arith) u) x) of-join (List·Memᴰ·append-cases (found (beforeOrFork l e)) m)
+      (List·Memᴰ·append-cases (found (sourceOf l e 1)) w) in
+      ⊎-elim (λ u. rw (source-at 0 (3 * e) a (omega arith) (omega arith) u) x) of-join (List·Memᴰ·append-cases (found (sourceOf l e 0)) (rw (three-sources l e) at m))
 
 -- ---- what is still
 

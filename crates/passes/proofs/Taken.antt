@@ -10,7 +10,7 @@ use Rattle.model.specs.declared.Counts.{Counts}
 use Rattle.model.specs.declared.Event.{Event}
 use Rattle.model.specs.declared.Found.{Found}
 use Rattle.model.specs.Numbers.{found, largest}
-use Rattle.model.specs.Recording.{Recording, size, tasks, eventIn, join}
+use Rattle.model.specs.Recording.{Recording, size, tasks}
 use Rattle.model.specs.Vectors.{Vectors, number}
 use Rattle.model.specs.Passes.{sources, gathered, stepOne}
 use Rattle.model.specs.Recorded.{matched, opened, causes}
@@ -21,6 +21,7 @@ use Rattle.vectors.proofs.Chunks.{next-row, same-numbers, chunks-shaped, number
 use Rattle.vectors.proofs.Raised.{raisedTo-same, raisedTo-other, raisedTo-shaped, raisedTo-alike, raisedTo-none, chunks-raised}
 use Rattle.passes.specs.Lent.{Inside, raisedFound}
 use Rattle.events.specs.Kept.{Below, sourceOf}
+use Rattle.events.proofs.Kept.{place-of, three-sources}
 use Rattle.passes.specs.Steps.{taken, recordedEvent}
 
 -- numbers that differ only where they are not above y
@@ -134,13 +135,12 @@ abbrev kept : List Event → ℕ → List ℕ
 kept l i = found (sourceOf l (i / 3) (i % 3))
 
 kept-at : (l : List Event) (i e j : ℕ) → i ≡ 3 * e + j → j < 3 → kept l i ≡ found (sourceOf l e j)
-kept-at l i e j q h = ap₂ (λ (a b : ℕ). found (sourceOf l a b)) (omega arith) (omega arith)
+kept-at l i e j q h = let (d, o) = place-of i e j q h in ap₂ (λ (a b : ℕ). found (sourceOf l a b)) d o
 
 three-kept : (l : List Event) (e : ℕ) → kept l (3 * e) ++ (kept l (3 * e + 1) ++ kept l (3 * e + 2)) ≡ sources l e
-unfolding sources sourceOf
 three-kept l e =
     ap₂ _++_ (kept-at l (3 * e) e 0 (omega arith) (omega arith)) (ap₂ _++_ (kept-at l (3 * e + 1) e 1 (omega arith) (omega arith)) (kept-at l (3 * e + 2) e 2 (omega arith) (omega arith)))
-    ∙ cases (eqb (eventIn l e .kind) join) (λ t. rw t) (λ t. rw t)
+    ∙ sym (three-sources l e)
 
 pub step-one : (E : Recording) (X Y Z W : Vectors) (e : ℕ) → Shaped (size E) (tasks E) X → e < size E → Y ≡ taken (E .counts) X (kept (E .events) (3 * e)) e
     → Z ≡ taken (E .counts) Y (kept (E .events) (3 * e + 1)) e → W ≡ taken (E .counts) Z (kept (E .events) (3 * e + 2)) e → W ≡ stepOne E X e

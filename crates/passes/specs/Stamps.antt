@@ -57,6 +57,6 @@ pub record Known (E : Recording) (X : Vectors) (sources when : List ℕ) (base e
 abbrev pub KnownIn : List ℕ → Counts → List ℕ → List ℕ → List ℕ → List ℕ → ℕ → ℕ → Type 0
 KnownIn s c b v sources when base e = Known (recordingBy s c b) (vectorsIn s c v) sources when base e
 
--- passes begin at 1,024, and the time of no pass is beyond a 64 bit number
+-- passes begin from 1,024 on and, whatever the budget, none later than at 1,024 × 2³², so no time is beyond a 64 bit number
 abbrev pub Timed : ℕ → Type 0
 Timed base = (1024 ≤ base) × (base ≤ 4398046511104)
