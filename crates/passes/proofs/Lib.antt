@@ -2,8 +2,6 @@ pub mod Tests
 pub mod Taken
 pub mod Waits
 pub mod Walks
-pub mod Searches
 pub mod Starts
 pub mod Runs
-pub mod Matching
 pub mod Stamps

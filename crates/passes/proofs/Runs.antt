@@ -1,4 +1,4 @@
--- A pass event by event, a run pass by pass, and the recorded run event by event.
+-- A pass event by event, and a run pass by pass.
 -- Assumes nothing.
 use Prim.Native.Nat.{ℕ, _+_, _*_, _≤_}
 use mathlib.Core.Path.{_≡_, refl, sym, ap, _∙_}
@@ -9,11 +9,10 @@ use lib.ListN.{length}
 use Rattle.model.specs.Recording.{Recording, size}
 use Rattle.model.specs.Vectors.{Vectors, flat, start}
 use Rattle.model.specs.Passes.{passTo, pass, sameRow, same, Run, run}
-use Rattle.model.specs.Recorded.{recordedTo, recorded}
 use Rattle.model.proofs.Climb.{run-suc, further-goes, settled-stays}
 use Rattle.vectors.specs.Rows.{chunks, Rose}
 use Rattle.vectors.proofs.Chunks.{flat-chunks, same-chunks}
-use Rattle.passes.specs.Steps.{raisedEvent, recordedEvent}
+use Rattle.passes.specs.Steps.{raisedEvent}
 
 -- ---- a pass
 
@@ -78,20 +77,6 @@ module _ (E : Recording) (b : ℕ) (X Y : Vectors) (m : Made E b X) (q : Y ≡ p
 -- the budget is spent
 pub made-spent : (E : Recording) (b d : ℕ) (X : Vectors) → Made E b X → b ≡ d → (b ≡ run E d .passes) × (false ≡ run E d .settled) × (X ≡ run E d .vectors)
 made-spent E b d X m q = rw (← q) (sym (m .passes), sym (m .unsettled), m .vectors)
-
--- ---- the recorded run
-
-pub record-start : (E : Recording) (X : Vectors) → X ≡ start E → X ≡ recordedTo E 0
-unfolding recordedTo
-record-start E X q = q
-
-pub record-next : (E : Recording) (Y Z : Vectors) (e : ℕ) → Y ≡ recordedTo E e → Z ≡ recordedEvent E Y e → Z ≡ recordedTo E (e + 1)
-unfolding recordedTo recordedEvent
-record-next E Y Z e q r = rw (add-one e) (r ∙ ap (λ (W : Vectors). recordedEvent E W e) q)
-
-pub record-end : (E : Recording) (Y : Vectors) (e : ℕ) → e ≡ size E → Y ≡ recordedTo E e → Y ≡ recorded E
-unfolding recorded
-record-end E Y e q r = r ∙ ap (recordedTo E) q
 
 -- ---- lent numbers whose rows are known
 

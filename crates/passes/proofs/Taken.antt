@@ -13,7 +13,6 @@ use Rattle.model.specs.Numbers.{found, largest}
 use Rattle.model.specs.Recording.{Recording, size, tasks}
 use Rattle.model.specs.Vectors.{Vectors, number}
 use Rattle.model.specs.Passes.{sources, gathered, stepOne}
-use Rattle.model.specs.Recorded.{matched, opened, causes}
 use Rattle.model.proofs.Tests.{cases, eqb-true, eqb-false}
 use Rattle.model.proofs.Climb.{Shaped}
 use Rattle.vectors.specs.Rows.{chunks, raisedTo}
@@ -22,7 +21,7 @@ use Rattle.vectors.proofs.Raised.{raisedTo-same, raisedTo-other, raisedTo-shape
 use Rattle.passes.specs.Lent.{Inside, raisedFound}
 use Rattle.events.specs.Kept.{Below, sourceOf}
 use Rattle.events.proofs.Kept.{place-of, three-sources}
-use Rattle.passes.specs.Steps.{taken, recordedEvent}
+use Rattle.passes.specs.Steps.{taken}
 
 -- numbers that differ only where they are not above y
 largest-under : (f g : ℕ → ℕ) (y : ℕ) (l : List ℕ) → ((s : ℕ) → max y (f s) ≡ max y (g s)) → max y (largest f l) ≡ max y (largest g l)
@@ -43,10 +42,6 @@ module _ (c : Counts) {n : ℕ} (X : Vectors) (e : ℕ) (s : Shaped n (c .tasks)
   pub taken-shaped : (from : List ℕ) → Shaped n (c .tasks) (taken c X from e)
   unfolding taken
   taken-shaped from = raisedTo-shaped e _ s h
-
-  pub taken-none : taken c X [] e ≡ X
-  unfolding taken largest
-  taken-none = raisedTo-none e _ s h (λ t k. zero-le)
 
   taken-same : (from : List ℕ) (t : ℕ) → t < c .tasks → number (taken c X from e) e t ≡ max (number X e t) (largest (λ a. number X a t) from)
   unfolding taken
@@ -101,15 +96,6 @@ taken-found c n l e (Found.At a) q h =
     ∙ raisedTo-alike e _ _ (chunks-shaped n m l q) h
     (λ t k. let y = number-chunks n m l a t q k in omega arith)
 
--- and after others
-pub found-then : (c : Counts) (n : ℕ) (l k : List ℕ) (e : ℕ) (from : List ℕ) (f : Found) → length l ≡ n * c .tasks → length k ≡ n * c .tasks → e < n
-    → chunks n (c .tasks) k ≡ taken c (chunks n (c .tasks) l) from e
-    → chunks n (c .tasks) (raisedFound (c .tasks) k e f) ≡ taken c (chunks n (c .tasks) l) (from ++ found f) e
-found-then c n l k e from f p q h r =
-    taken-found c n k e f q h
-    ∙ ap (λ (Y : Vectors). taken c Y (found f) e) r
-    ∙ taken-then c (chunks n (c .tasks) l) e (chunks-shaped n (c .tasks) l p) h from (found f)
-
 -- the vector of a found event lies in the list
 pub inside : (m n len : ℕ) (f : Found) → len ≡ n * m → Below n f → Inside m len f
 inside m n len Found.Nothing q b = tt
@@ -122,7 +108,7 @@ unfolding gathered taken raisedTo largest
 gathered-taken E X from e = refl
 
 -- some, then others, then others again
-three-taken : (c : Counts) {n : ℕ} (X Y Z W : Vectors) (e : ℕ) → Shaped n (c .tasks) X → e < n → (from more rest : List ℕ)
+pub three-taken : (c : Counts) {n : ℕ} (X Y Z W : Vectors) (e : ℕ) → Shaped n (c .tasks) X → e < n → (from more rest : List ℕ)
     → Y ≡ taken c X from e → Z ≡ taken c Y more e → W ≡ taken c Z rest e → W ≡ taken c X (from ++ (more ++ rest)) e
 three-taken c X Y Z W e s h from more rest p q r =
     r
@@ -149,12 +135,3 @@ step-one E X Y Z W e s h p q r =
     three-taken (E .counts) X Y Z W e s h _ _ _ p q r
     ∙ ap (λ (all : List ℕ). taken (E .counts) X all e) (three-kept (E .events) e)
     ∙ sym (gathered-taken E X (sources (E .events) e) e)
-
--- the recorded vector: step 1, then the matched signal, then the first posts
-pub record-event : (E : Recording) (X Y Z W : Vectors) (e : ℕ) → Shaped (size E) (tasks E) X → e < size E → Y ≡ stepOne E X e
-    → Z ≡ taken (E .counts) Y (found (matched (E .levels) (E .events) e)) e → W ≡ taken (E .counts) Z (opened (E .levels) (E .events) e) e
-    → W ≡ recordedEvent E X e
-unfolding stepOne recordedEvent
-record-event E X Y Z W e s h q r u =
-    three-taken (E .counts) X Y Z W e s h (sources (E .events) e) _ _ (q ∙ gathered-taken E X (sources (E .events) e) e) r u
-    ∙ sym (gathered-taken E X (causes (E .levels) (E .events) e) e)

@@ -1,12 +1,12 @@
 -- Walks along a chain: from one of its events to the next there is none, so nothing is counted or picked in between. And where the
 -- slots of the chains lie. Assumes nothing.
 use Prim.Native.Nat.{ℕ, zero, suc, _+_, _≤_, _<_}
-use mathlib.Core.Path.{_≡_, sym, ap, _∙_}
+use mathlib.Core.Path.{_≡_, refl, sym, ap, _∙_}
 use mathlib.Core.Bool.{Bool, false, _&&_}
 use native.Mathlib.Decide.{decLe}
 use native.Mathlib.Numerals.{add-one}
 use native.Mathlib.Omega.{arith}
-use Rattle.model.specs.Numbers.{bit, tally, picked}
+use Rattle.model.specs.Numbers.{bit, sum, tally, picked}
 use Rattle.model.specs.Recording.{signal, wait, post}
 use Rattle.model.proofs.Tests.{lt-ltb}
 use Rattle.events.specs.Chains.{Nearest, slots, slotOf}
@@ -20,6 +20,11 @@ leap f m (suc b) h e = elim (decLe m b) [
   | yes l ↦ ap f (sym (add-one b)) ∙ e b l (omega arith) ∙ leap f m b l (λ i x y. e i x (omega arith))
   | no l ↦ ap f (let z : suc b ≡ m = omega arith in z)
 ]
+
+-- none is counted at first
+pub tally-start : (p : ℕ → Bool) → tally p 0 ≡ 0
+unfolding sum
+tally-start p = refl
 
 -- numbers that fail are not counted
 pub tally-skip : (p : ℕ → Bool) (m b : ℕ) → m ≤ b → ((i : ℕ) → m ≤ i → i < b → p i ≡ false) → tally p b ≡ tally p m
@@ -43,12 +48,7 @@ module _ {p : ℕ → Bool} {n m b : ℕ} (f : Nearest p n m b) where
 
 -- ---- slots
 
-module _ (x : ℕ) (h : x < 64) where
-  pub signal-slot : slotOf signal x ≡ x
-  unfolding slotOf
-  signal-slot = rw (lt-ltb x 64 h)
-
-  -- signals, waits and posts have slots
-  pub has-slots : (slotOf signal x < slots) × (slotOf wait x < slots) × (slotOf post x < slots)
-  unfolding slotOf
-  has-slots = rw (lt-ltb x 64 h) (omega arith, omega arith, omega arith)
+-- signals, waits and posts have slots
+pub has-slots : (x : ℕ) → x < 64 → (slotOf signal x < slots) × (slotOf wait x < slots) × (slotOf post x < slots)
+unfolding slotOf
+has-slots x h = rw (lt-ltb x 64 h) (omega arith, omega arith, omega arith)

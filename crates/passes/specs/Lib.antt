@@ -1,4 +1,3 @@
 pub mod Lent
 pub mod Steps
-pub mod Matching
 pub mod Stamps

@@ -1,4 +1,4 @@
--- The steps of a pass and of the recorded run, as functions from vectors to vectors.
+-- The steps of a pass, as functions from vectors to vectors.
 -- Assumes nothing.
 use Prim.Native.Nat.{ℕ}
 use mathlib.Core.Bool.{Bool, not, _&&_}
@@ -9,8 +9,7 @@ use Rattle.model.specs.declared.Event.{Event}
 use Rattle.model.specs.Numbers.{picked, largest}
 use Rattle.model.specs.Recording.{Recording, tasks, eventIn, isOn, isWait}
 use Rattle.model.specs.Vectors.{Vectors, position, number, ordered}
-use Rattle.model.specs.Passes.{gathered, kthAmong, served, raised}
-use Rattle.model.specs.Recorded.{causes}
+use Rattle.model.specs.Passes.{kthAmong, served, raised}
 use Rattle.vectors.specs.Rows.{raisedTo, ownRow}
 
 -- the starting vector of an event
@@ -43,7 +42,3 @@ stepTwo E X e = raisedTo (tasks E) X e (served E X e)
 -- both steps for e
 unfoldable pub raisedEvent : Recording → Vectors → ℕ → Vectors
 raisedEvent E X e = set X e (raised E X e)
-
--- the recorded vector of e
-unfoldable pub recordedEvent : Recording → Vectors → ℕ → Vectors
-recordedEvent E X e = set X e (gathered E X (causes (E .levels) (E .events) e) e)

@@ -1,24 +1,22 @@
-// Passes and safe vectors, and the recorded run, over record bytes and lent work numbers. What a call looks up of the records
-// (positions, sources, chains) is lent, and a pass raises only the events that read a vector that has changed.
+// Passes and safe vectors over record bytes and lent work numbers. What a call looks up of the records (positions, sources,
+// chains) is lent, and a pass raises only the events that read a vector that has changed.
 ghost use Prim.Native.Nat.{_+_, _*_, _/_, _%_, _≤_, _<_};
 ghost use mathlib.Core.Path.{_≡_};
 ghost use mathlib.Core.List.{[], _++_};
-ghost use lib.ListN.{length, take, drop};
+ghost use lib.ListN.{length, drop};
 ghost use lib.Seq.{sets};
 ghost use Rattle.model.specs.Numbers.{found};
 ghost use Rattle.model.specs.Recording.{eventIn};
-ghost use Rattle.model.specs.File.{eventsOf, levelsBy, recordingBy};
+ghost use Rattle.model.specs.File.{eventsOf, recordingBy};
 ghost use Rattle.model.specs.Vectors.{atOrBefore, flat, start, ordered};
-ghost use Rattle.model.specs.Passes.{stepOne, postsOn, kOf, pass, run};
-ghost use Rattle.model.specs.Recorded.{matched, opened, recorded};
-ghost use Rattle.model.specs.Reading.{mostSemaphores, mostFlags, mostEvents};
+ghost use Rattle.model.specs.Passes.{stepOne, kOf, pass, run};
+ghost use Rattle.model.specs.Reading.{mostSemaphores, mostEvents};
 ghost use Rattle.vectors.specs.Rows.{Rose};
-ghost use Rattle.events.specs.Kept.{Below, sourceOf, Sources};
+ghost use Rattle.events.specs.Kept.{sourceOf, Sources};
 ghost use Rattle.events.specs.Chains.{slots, slotOf, Gathered};
 ghost use Rattle.passes.specs.Lent.{vectorsIn, over, Becomes, Fitting, Numbered, Records, Placed, Prepared, Inside, raisedFound};
-ghost use Rattle.passes.specs.Matching.{Matching};
 ghost use Rattle.passes.specs.Stamps.{stamps, servedAt, still, touched, KnownIn, Timed};
-ghost use Rattle.passes.specs.Steps.{firstRow, taken, candidatesOn, waited, stepTwo, raisedEvent, recordedEvent};
+ghost use Rattle.passes.specs.Steps.{firstRow, taken, candidatesOn, waited, stepTwo, raisedEvent};
 use events::CHAINS;
 use events::SOURCES;
 use model::Counts;
@@ -26,13 +24,9 @@ use model::Event;
 use model::FLAG_WAIT;
 use model::Found;
 use model::MOST_EVENTS;
-use model::MOST_SEMAPHORES;
 use model::POST;
 use model::SIGNAL;
 use model::WAIT;
-
-// A place for each semaphore.
-const SEMAPHORES: usize = MOST_SEMAPHORES as usize;
 
 // How many passes were made, and whether the last one was quiet.
 pub struct Outcome {
@@ -78,7 +72,7 @@ pub fn ordered(
 }
 
 // Raises vector e to that of a found event. Answers whether any number rose.
-fn raise_found(v: &mut [u16], e: usize, tasks: usize, from: Found) -> bool
+pub fn raise_found(v: &mut [u16], e: usize, tasks: usize, from: Found) -> bool
     requires { ⌜ (e * tasks + tasks ≤ length (now v)) × Inside tasks (length (now v)) from ⌝ }
     ensures { λ _. ⌜ now (v .exit) ≡ raisedFound tasks (now (v .entry)) e from ⌝ }
     ensures { λ r. ⌜ Rose (now (v .entry)) (now (v .exit)) r ⌝ }
@@ -108,7 +102,7 @@ fn raise_source(
 }
 
 // Step 1 for event e: its sources, one after another. Answers whether any number rose.
-fn step_one(
+pub fn step_one(
     records: &[u8],
     counts: Counts,
     sources: &[u16; SOURCES],
@@ -424,7 +418,7 @@ fn start_event(
 }
 
 // Writes the starting vectors.
-fn start(records: &[u8], counts: Counts, positions: &[u16], v: &mut [u16])
+pub fn start(records: &[u8], counts: Counts, positions: &[u16], v: &mut [u16])
     requires { ⌜ Placed (now records) counts (now positions) × Fitting (now records) counts (now v) ⌝ }
     ensures { λ _. ⌜ now (v .exit) ≡ flat (start (recordingBy (now (records .entry)) counts [])) ⌝ }
 {
@@ -513,164 +507,4 @@ pub fn run(
         budget,
         v,
     )
-}
-
-// The signal that event e is matched with. The first waits on a semaphore, as many as its start count, have none, and
-// `unmatched` counts them; a later one has the signal at hand, and then the next one is at hand.
-fn take_signal(
-    records: &[u8],
-    counts: Counts,
-    levels: &[u8],
-    e: usize,
-    unmatched: &mut [u16; SEMAPHORES],
-    hand: &mut [u16; CHAINS],
-) -> Found
-    requires { ⌜ Records (now records) counts × Numbered (now records) e × Matching (now records) (levelsBy counts (now levels)) e (now unmatched) (now hand) ⌝ }
-    ensures { λ r. ⌜ (r ≡ matched (levelsBy counts (now (levels .entry))) (eventsOf (now (records .entry))) e) × Below (length (eventsOf (now (records .entry)))) r ⌝ }
-    ensures { λ _. ⌜ Matching (now (records .entry)) (levelsBy counts (now (levels .entry))) (e + 1) (now (unmatched .exit)) (now (hand .exit)) ⌝ }
-{
-    let w = events::event_at(records, e);
-    if w.kind != WAIT {
-        return Found::Nothing;
-    }
-    let x = w.object as usize;
-    if unmatched[x] < events::start_of(levels, counts, w.object) {
-        unmatched[x] += 1;
-        return Found::Nothing;
-    }
-    let head = MOST_EVENTS + x;
-    let a = hand[head] as usize;
-    if records.len() / 4 <= a {
-        return Found::Nothing;
-    }
-    hand[head] = hand[a];
-    Found::At(a)
-}
-
-// Raises vector e to those of the first posts on flag g, at most `most` of them, along their chain.
-fn follow_posts(
-    records: &[u8],
-    counts: Counts,
-    e: usize,
-    chains: &[u16; CHAINS],
-    g: u16,
-    most: u16,
-    v: &mut [u16],
-)
-    requires { ⌜ Records (now records) counts × Fitting (now records) counts (now v) × Numbered (now records) e × Gathered (now records) (now chains) × (g < mostFlags) ⌝ }
-    ensures { λ _. ⌜ Becomes (λ E X. taken counts X (take most (postsOn (E .events) g)) e) (now (records .entry)) counts [] (now (v .entry)) (now (v .exit)) ⌝ }
-{
-    let n = records.len() / 4;
-    let mut followed: u16 = 0;
-    let mut a = events::first_on(chains, POST, g);
-    while (followed < most) & (a < n) {
-        vectors::raise_row(v, e, a, counts.tasks as usize);
-        followed += 1;
-        a = events::at_place(chains, a);
-    }
-}
-
-// For a flag wait, raises vector e to those of the first posts on its flag, as many as the post count.
-fn raise_opened(
-    records: &[u8],
-    counts: Counts,
-    levels: &[u8],
-    e: usize,
-    chains: &[u16; CHAINS],
-    v: &mut [u16],
-)
-    requires { ⌜ Records (now records) counts × Fitting (now records) counts (now v) × Numbered (now records) e × Gathered (now records) (now chains) ⌝ }
-    ensures { λ _. ⌜ Becomes (λ E X. taken counts X (opened (E .levels) (E .events) e) e) (now (records .entry)) counts (now (levels .entry)) (now (v .entry)) (now (v .exit)) ⌝ }
-{
-    let w = events::event_at(records, e);
-    if w.kind != FLAG_WAIT {
-        return;
-    }
-    let most = events::post_of(levels, counts, w.object);
-    follow_posts(records, counts, e, chains, w.object, most, v);
-}
-
-// Makes the recorded vector of event e: step 1, for a wait the matched signal, and for a flag wait the first posts.
-fn record_event(
-    records: &[u8],
-    counts: Counts,
-    levels: &[u8],
-    sources: &[u16; SOURCES],
-    chains: &[u16; CHAINS],
-    e: usize,
-    unmatched: &mut [u16; SEMAPHORES],
-    hand: &mut [u16; CHAINS],
-    v: &mut [u16],
-)
-    requires { ⌜ Records (now records) counts × Fitting (now records) counts (now v) × Numbered (now records) e × Sources (eventsOf (now records)) (now sources) ⌝ }
-    requires { ⌜ Gathered (now records) (now chains) × Matching (now records) (levelsBy counts (now levels)) e (now unmatched) (now hand) ⌝ }
-    ensures { λ _. ⌜ Becomes (λ E X. recordedEvent E X e) (now (records .entry)) counts (now (levels .entry)) (now (v .entry)) (now (v .exit)) ⌝ }
-    ensures { λ _. ⌜ Matching (now (records .entry)) (levelsBy counts (now (levels .entry))) (e + 1) (now (unmatched .exit)) (now (hand .exit)) ⌝ }
-{
-    step_one(records, counts, sources, e, v);
-    let signal = take_signal(records, counts, levels, e, unmatched, hand);
-    let tasks = counts.tasks as usize;
-    raise_found(v, e, tasks, signal);
-    raise_opened(records, counts, levels, e, chains, v);
-}
-
-// Makes the recorded vectors, in file order.
-fn record_all(
-    records: &[u8],
-    counts: Counts,
-    levels: &[u8],
-    positions: &[u16],
-    sources: &[u16; SOURCES],
-    chains: &[u16; CHAINS],
-    v: &mut [u16],
-)
-    requires { ⌜ Prepared (now records) counts (now positions) (now sources) (now chains) × Fitting (now records) counts (now v) ⌝ }
-    ensures { λ _. ⌜ now (v .exit) ≡ flat (recorded (recordingBy (now (records .entry)) counts (now (levels .entry)))) ⌝ }
-{
-    let n = records.len() / 4;
-    start(records, counts, positions, v);
-    let mut unmatched = [0u16; SEMAPHORES];
-    let mut hand = *chains;
-    let mut e = 0;
-    while e < n {
-        record_event(
-            records,
-            counts,
-            levels,
-            sources,
-            chains,
-            e,
-            &mut unmatched,
-            &mut hand,
-            v,
-        );
-        e += 1;
-    }
-}
-
-// The recorded vectors, from the front; what is behind them stays.
-pub fn record(
-    records: &[u8],
-    counts: Counts,
-    levels: &[u8],
-    positions: &[u16],
-    sources: &[u16; SOURCES],
-    chains: &[u16; CHAINS],
-    v: &mut [u16],
-)
-    requires { ⌜ Prepared (now records) counts (now positions) (now sources) (now chains) × (length (eventsOf (now records)) * counts .tasks ≤ length (now v)) ⌝ }
-    ensures { λ _. ⌜ now (v .exit) ≡ flat (recorded (recordingBy (now (records .entry)) counts (now (levels .entry))))
-        ++ drop (length (eventsOf (now (records .entry))) * counts .tasks) (now (v .entry)) ⌝ }
-{
-    let tasks = counts.tasks as usize;
-    let nt = records.len() / 4 * tasks;
-    record_all(
-        records,
-        counts,
-        levels,
-        positions,
-        sources,
-        chains,
-        &mut v[..nt],
-    );
 }

@@ -85,7 +85,7 @@ pub fn fill(
         budget,
         &mut work[..half],
     );
-    passes::record(
+    recorded::record(
         records,
         counts,
         levels,

@@ -16,9 +16,8 @@ use Rattle.events.proofs.Laws.{tally-next}
 use Rattle.passes.specs.Lent.{vectorsIn, over}
 use Rattle.passes.specs.Steps.{waitBefore}
 use Rattle.passes.proofs.Tests.{and-passed}
-use Rattle.passes.proofs.Searches.{tally-start}
 use Rattle.passes.proofs.Waits.{k-tally}
-use Rattle.passes.proofs.Walks.{arrived, tally-leap, has-slots}
+use Rattle.passes.proofs.Walks.{tally-start, arrived, tally-leap, has-slots}
 use Rattle.passes.proofs.needed.Statement.{statement}
 use Rattle.passes.proofs.needed.Tie as tie
 

@@ -7,7 +7,7 @@ use mathlib.Core.List.{[]}
 use native.Mathlib.Omega.{arith}
 use lib.ListN.{take}
 use Rattle.model.specs.declared.Found.{Found}
-use Rattle.model.specs.Numbers.{sum, tally, picked, nth}
+use Rattle.model.specs.Numbers.{tally, picked, nth}
 use Rattle.model.specs.Recording.{startOf, postOf, Recording, kindOf, objectOf, wait, flagWait}
 use Rattle.model.specs.Passes.{signalsOn, postsOn}
 use Rattle.model.specs.Recorded.{waitsBefore, matched, opened}
@@ -29,10 +29,6 @@ nth-none p n k h = go (nth (picked p n) k) refl
     go : (m : Found) → nth (picked p n) k ≡ m → Found.Nothing ≡ m
     go (Found.At x) q = let (l, s, z) = nth-of p n k x q in absurd (let r = rank-rises p x n l s in omega arith)
     go Found.Nothing q = refl
-
-pub tally-start : (p : ℕ → Bool) → tally p 0 ≡ 0
-unfolding sum
-tally-start p = refl
 
 module _ (E : Recording) (e : ℕ) where
   -- a wait that the start count serves, a later one, and any other event

@@ -10,13 +10,14 @@ use Rattle.model.specs.Recorded.{recordedTo}
 use Rattle.model.proofs.Climb.{start-shaped}
 use Rattle.vectors.specs.Rows.{chunks}
 use Rattle.vectors.proofs.Chunks.{chunks-flat}
 use Rattle.passes.specs.Lent.{vectorsIn, Fitting}
-use Rattle.passes.specs.Matching.{Matching}
+use Rattle.recorded.specs.Matching.{Matching}
 use Rattle.model.proofs.Levels.{start-levels}
-use Rattle.passes.proofs.Matching.{start as first-match}
-use Rattle.passes.proofs.Runs.{record-start, record-next, record-end, numbers-of}
-use Rattle.passes.proofs.record_all.Statement.{statement}
-use Rattle.passes.proofs.record_all.Tie as tie
+use Rattle.recorded.proofs.Matching.{start as first-match}
+use Rattle.passes.proofs.Runs.{numbers-of}
+use Rattle.recorded.proofs.Runs.{record-start, record-next, record-end}
+use Rattle.recorded.proofs.record_all.Statement.{statement}
+use Rattle.recorded.proofs.record_all.Tie as tie
 
 abbrev Inv-loop : tie.InvT-loop
 Inv-loop records counts levels positions sources chains v₀ n unmatched₀ hand₀ e₀ v unmatched hand e =

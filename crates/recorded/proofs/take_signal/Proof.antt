@@ -16,11 +16,11 @@ use Rattle.model.specs.Passes.{signalsOn}
 use Rattle.model.specs.Recorded.{matched}
 use Rattle.model.proofs.Tests.{both, eq-eqb, ne-eqb}
 use Rattle.events.specs.Chains.{head}
-use Rattle.passes.specs.Matching.{signalAt, waitAt, AtHand, Matching}
-use Rattle.passes.proofs.Searches.{matched-early, matched-later, matched-other}
-use Rattle.passes.proofs.Matching.{next-other, next-early, next-later, taken-next, none-next, hand-at, hand-none}
-use Rattle.passes.proofs.take_signal.Statement.{statement}
-use Rattle.passes.proofs.take_signal.Tie as tie
+use Rattle.recorded.specs.Matching.{signalAt, waitAt, AtHand, Matching}
+use Rattle.recorded.proofs.Searches.{matched-early, matched-later, matched-other}
+use Rattle.recorded.proofs.Matching.{next-other, next-early, next-later, taken-next, none-next, hand-at, hand-none}
+use Rattle.recorded.proofs.take_signal.Statement.{statement}
+use Rattle.recorded.proofs.take_signal.Tie as tie
 
 no-wait : (x : ℕ) (v : Event) → (v .kind ≡ wait → ⊥) → isWait x v ≡ false
 no-wait x v d = rw (ne-eqb (v .kind) wait d)

@@ -14,14 +14,14 @@ use Rattle.model.specs.Passes.{postsOn}
 use Rattle.model.proofs.Tests.{cases, first, second, and-false, tests}
 use Rattle.vectors.proofs.Chunks.{next-row, chunks-shaped}
 use Rattle.events.specs.Chains.{onAt, slotOf, head, Nearest, Chain}
 use Rattle.passes.specs.Lent.{vectorsIn, Fitting}
-use Rattle.passes.specs.Matching.{AtHand}
+use Rattle.recorded.specs.Matching.{AtHand}
 use Rattle.passes.specs.Steps.{taken}
-use Rattle.passes.proofs.Taken.{taken-none, found-then}
+use Rattle.recorded.proofs.Taken.{taken-none, found-then}
 use Rattle.passes.proofs.Walks.{has-slots}
-use Rattle.passes.proofs.Matching.{hand-first, hand-next, first-more, first-all}
-use Rattle.passes.proofs.follow_posts.Statement.{statement}
-use Rattle.passes.proofs.follow_posts.Tie as tie
+use Rattle.recorded.proofs.Matching.{hand-first, hand-next, first-more, first-all}
+use Rattle.recorded.proofs.follow_posts.Statement.{statement}
+use Rattle.recorded.proofs.follow_posts.Tie as tie
 
 abbrev Inv-loop : tie.InvT-loop
 Inv-loop records counts e chains g most v₀ n followed₀ a₀ v followed a =

@@ -11,12 +11,12 @@ use Rattle.model.specs.Recording.{Recording, size, kindOf, flagWait, postOf}
 use Rattle.model.specs.File.{recordingBy}
 use Rattle.model.specs.Passes.{postsOn}
 use Rattle.vectors.proofs.Chunks.{chunks-shaped}
 use Rattle.passes.specs.Lent.{vectorsIn}
 use Rattle.passes.specs.Steps.{taken}
-use Rattle.passes.proofs.Searches.{opened-flag, opened-other}
-use Rattle.passes.proofs.Taken.{taken-none}
-use Rattle.passes.proofs.raise_opened.Statement.{statement}
-use Rattle.passes.proofs.raise_opened.Tie as tie
+use Rattle.recorded.proofs.Searches.{opened-flag, opened-other}
+use Rattle.recorded.proofs.Taken.{taken-none}
+use Rattle.recorded.proofs.raise_opened.Statement.{statement}
+use Rattle.recorded.proofs.raise_opened.Tie as tie
 
 returns : tie.Need-returns
 returns c =

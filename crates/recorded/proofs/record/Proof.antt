@@ -8,8 +8,8 @@ use borrow.Author.Needs.{needs}
 use lib.ListN.{length, take, drop}
 use lib.Seq.{length-take-le}
 use Rattle.model.specs.File.{eventsOf}
-use Rattle.passes.proofs.record.Statement.{statement}
-use Rattle.passes.proofs.record.Tie as tie
+use Rattle.recorded.proofs.record.Statement.{statement}
+use Rattle.recorded.proofs.record.Tie as tie
 
 module _ (s : tie.Start) where
   -- N × T, by the length of the records

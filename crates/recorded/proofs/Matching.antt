@@ -13,14 +13,14 @@ use Rattle.model.specs.declared.Found.{Found}
 use Rattle.model.specs.Numbers.{bit, tally, picked, nth}
 use Rattle.model.specs.File.{eventsOf}
 use Rattle.model.specs.Passes.{eventsOn}
-use Rattle.model.proofs.Tests.{cases, tests, fails, second, eqb-true}
+use Rattle.model.proofs.Tests.{cases, tests, fails, second, eqb-true, lt-ltb}
 use Rattle.model.proofs.Sum.{rank-rises}
 use Rattle.model.proofs.Picked.{picked-length, rank-at}
-use Rattle.events.specs.Chains.{onAt, Nearest, head, Chain, Gathered}
+use Rattle.events.specs.Chains.{onAt, Nearest, head, slotOf, Chain, Gathered}
 use Rattle.events.proofs.Laws.{tally-next}
-use Rattle.passes.specs.Matching.{signalAt, waitAt, AtHand, Matching}
-use Rattle.passes.proofs.Searches.{tally-start, nth-here, nth-none}
-use Rattle.passes.proofs.Walks.{tally-skip, signal-slot, has-slots}
+use Rattle.recorded.specs.Matching.{signalAt, waitAt, AtHand, Matching}
+use Rattle.recorded.proofs.Searches.{nth-here, nth-none}
+use Rattle.passes.proofs.Walks.{tally-start, tally-skip, has-slots}
 use Rattle.model.specs.Recording.{Levels, startOf, eventIn, signal, wait}
 
 -- ---- what is at hand
@@ -76,6 +76,11 @@ module _ (s : List ℕ) (kind x w b : ℕ) (h : AtHand (onAt s kind x) (length (
       take-all w on (omega (arith, few l)) ∙ sym (take-all m on (omega (arith, few l)))
 
 -- ---- the running state
+
+-- where a semaphore's signals have their slot
+signal-slot : (x : ℕ) → x < 64 → slotOf signal x ≡ x
+unfolding slotOf
+signal-slot x h = rw (lt-ltb x 64 h)
 
 -- before the first event, by the signals' chains
 pub start : (s : List ℕ) (levels : Levels) (chain : List ℕ) → Gathered s chain → Matching s levels 0 (replicate 64 0) chain

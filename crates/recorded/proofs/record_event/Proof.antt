@@ -10,11 +10,12 @@ use Rattle.model.specs.Recording.{size}
 use Rattle.model.specs.File.{recordingBy}
 use Rattle.vectors.specs.Rows.{chunks}
 use Rattle.vectors.proofs.Chunks.{next-row, chunks-shaped}
 use Rattle.passes.specs.Steps.{taken}
 use Rattle.model.proofs.Levels.{step-one-levels}
-use Rattle.passes.proofs.Taken.{inside, taken-found, record-event}
-use Rattle.passes.proofs.record_event.Statement.{statement}
-use Rattle.passes.proofs.record_event.Tie as tie
+use Rattle.passes.proofs.Taken.{inside, taken-found}
+use Rattle.recorded.proofs.Taken.{record-event}
+use Rattle.recorded.proofs.record_event.Statement.{statement}
+use Rattle.recorded.proofs.record_event.Tie as tie
 
 raise-found-requires : tie.Need-raise-found-requires
 raise-found-requires c κs =

@@ -1,0 +1,4 @@
+pub mod Taken
+pub mod Searches
+pub mod Runs
+pub mod Matching
