@@ -1,7 +1,11 @@
 -- The rows: each computes.
 -- Assumes nothing.
-use Prim.Native.Nat.{ℕ}
-use mathlib.Core.Path.{_≡_, refl}
+use Prim.Native.Nat.{ℕ, _*_}
+use mathlib.Core.Path.{_≡_, refl, ap₂, _∙_}
+use mathlib.Core.List.{List, [], _++_}
+use lib.Dec.{leb}
+use lib.ListN.{length, replicate, length-replicate}
+use Rattle.model.specs.declared.Check.{Check}
 use Rattle.model.specs.declared.Refusal.{Refusal}
 use Rattle.model.specs.declared.Reading.{Reading}
 use Rattle.model.specs.declared.Analysis.{Analysis}
@@ -9,7 +13,16 @@ use Rattle.model.specs.declared.Relation.{Relation}
 use Rattle.model.specs.declared.Answer.{Answer}
 use Rattle.model.specs.declared.Written.{Written}
 use Rattle.model.specs.declared.Joint.{Joint}
-use Rattle.model.specs.Refusals.{numberOf, recordOf, pairsOf, differingTask, differingPosition}
+use Rattle.model.specs.Refusals.{numberOf, recordOf, pairsOf, differingTask, differingPosition, unless, andThen}
+use Rattle.model.specs.Recording.{size, tasks}
+use Rattle.model.specs.File.{recordingOf}
+use Rattle.model.specs.Reading.{fileCheck}
+use Rattle.model.specs.Passes.{budgetOf}
+use Rattle.model.specs.Pairs.{listed}
+use Rattle.model.specs.Analysing.{workCheck, analysisCheck}
+use Rattle.model.specs.Text.{bytes}
+use Rattle.model.specs.Report.{reportBy, ifLong, isLong, reportOf}
+use Rattle.model.specs.Rows.Starred.{of, W, file, B, G}
 use Rattle.model.specs.Rows.Faults.{Faults}
 use Rattle.model.specs.Rows.Parts.{Parts}
 use Rattle.model.specs.Rows.Raised.{Raised}
@@ -232,15 +245,37 @@ lent = record {
   out-short = refl;
 }
 
+-- ---- what is printed, by how many numbers are lent: a row then need not make the program's 57,344
+
+checkByLengths : List ℕ → ℕ → ℕ → Check
+checkByLengths f m n =
+    let E = recordingOf f in
+    let pairs = length (listed E (budgetOf E)) in
+    andThen (andThen (fileCheck f) λ _. unless (leb (2 * (size E * tasks E)) m) Refusal.Work λ _. Check.Passed) λ _.
+    unless (leb (3 * pairs) n) (Refusal.List pairs) λ _. Check.Passed
+
+reportByLengths : List ℕ → ℕ → ℕ → List ℕ
+reportByLengths f m n = ifLong (isLong f) (bytes "too long\n") λ _. let E = recordingOf f in reportBy E (budgetOf E) (checkByLengths f m n)
+
+by-lengths : (f work list : List ℕ) → reportOf f work list ≡ reportByLengths f (length work) (length list)
+unfolding reportOf analysisCheck workCheck checkByLengths reportByLengths
+by-lengths f work list = refl
+
+with-room : (f : List ℕ) {text : List ℕ} → reportByLengths f 32768 24576 ≡ text → reportOf f (replicate 32768 0) (replicate 24576 0) ≡ text
+with-room f q =
+    by-lengths f (replicate 32768 0) (replicate 24576 0)
+    ∙ ap₂ (reportByLengths f) (length-replicate {A = ℕ} 32768 0) (length-replicate {A = ℕ} 24576 0)
+    ∙ q
+
 pub printed : Printed
-unfolding rows
+unfolding rows checkByLengths reportByLengths
 printed = record {
-  g = refl;
+  g = with-room G refl;
   i = refl;
   j = refl;
-  no-events = refl;
-  is-open = refl;
-  two-cells = refl;
+  no-events = with-room (file 1 0 0 []) refl;
+  is-open = with-room B refl;
+  two-cells = with-room (file 2 0 2 (of 6 0 1 ++ of 6 1 1 ++ W 0 ++ W 1)) refl;
   at-record = refl;
   list-full = refl;
   budget = refl;
