@@ -6,7 +6,7 @@ use mathlib.Core.Bool.{Bool, true, false, cond, not, _&&_}
 use mathlib.Core.List.{List, [], _∷_, _++_, map, append-nil, append-assoc}
 use native.Mathlib.Numerals.{add-one}
 use native.Mathlib.Omega.{arith}
-use lib.ListN.{length, getD, set, drop}
+use lib.ListN.{length, getD, set, drop, length-set, length-append}
 use lib.Seq.{set-at, set-set, drop-cons}
 use Rattle.model.specs.Numbers.{tally, filter, each, picked, kthLeast}
 use Rattle.model.specs.declared.Counts.{Counts}
@@ -41,6 +41,24 @@ module _ (p : ℕ → Bool) where
 -- a number that passes is stored behind those picked before
 pub pick-one : (l out : List ℕ) (c a : ℕ) → c ≡ length l → c < length out → (set (l ++ drop c out) c a ≡ (l ++ a ∷ []) ++ drop (c + 1) out)
 pick-one l out c a q h = rw (drop-cons out c 0 h, add-one c) (set-at l (getD out c 0) (drop (suc c) out) a c (sym q) ∙ sym (append-assoc l (a ∷ []) (drop (suc c) out)))
+
+-- the numbers below a that pass, c of them, stand in front of what was lent
+abbrev pub Picks : (ℕ → Bool) → List ℕ → ℕ → ℕ → List ℕ → Type 0
+Picks p out₀ a c out = (c ≤ a) × (length out ≡ length out₀) × (c ≡ length (picked p a)) × (out ≡ picked p a ++ drop c out₀)
+
+-- a is looked at, and none that passes lies between it and b
+module _ (p : ℕ → Bool) (out₀ out : List ℕ) (a b c : ℕ) (i : Picks p out₀ a c out) (l : a + 1 ≤ b) (q : picked p b ≡ picked p (a + 1)) where
+  pub picks-hit : p a ≡ true → c < length out₀ → (out′ : List ℕ) (c′ : ℕ) → out′ ≡ set out c a → c′ ≡ c + 1 → Picks p out₀ b c′ out′
+  picks-hit t r out′ c′ u w =
+      rw (u, w, q ∙ picked-hit p a t) (
+        omega (arith, i .0),
+        length-set out c a ∙ i .1,
+        omega (arith, i .2, length-append (picked p a) (a ∷ [])),
+        ap (λ (k : List ℕ). set k c a) (i .3) ∙ pick-one (picked p a) out₀ c a (i .2) r,
+      )
+
+  pub picks-miss : p a ≡ false → (out′ : List ℕ) (c′ : ℕ) → out′ ≡ out → c′ ≡ c → Picks p out₀ b c′ out′
+  picks-miss t out′ c′ u w = rw (u, w, q ∙ picked-miss p a t) (omega (arith, i .0), i .1, i .2, i .3)
 
 -- ---- as the definitions have it
 

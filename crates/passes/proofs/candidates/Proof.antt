@@ -3,11 +3,11 @@
 use mathlib.Core.Path.{_≡_, refl, sym, ap, _∙_}
 use mathlib.Core.Logic.{⊎-elim}
 use mathlib.Core.Bool.{Bool, not}
-use mathlib.Core.List.{List, [], _∷_, _++_}
+use mathlib.Core.List.{List, _++_}
 use Prim.Native.Nat.{ℕ, _+_, _-_, _≤_, _<_}
 use native.Mathlib.Omega.{arith}
 use borrow.Author.Needs.{needs}
-use lib.ListN.{length, getD, drop, set, length-set, length-append}
+use lib.ListN.{length, getD, drop}
 use Rattle.model.specs.Numbers.{picked}
 use Rattle.model.specs.File.{eventsOf}
 use Rattle.model.specs.Vectors.{Vectors, ordered}
@@ -15,7 +15,7 @@ use Rattle.events.specs.Chains.{slotOf, head, onAt, Nearest, Chain}
 use Rattle.passes.specs.Lent.{vectorsIn}
 use Rattle.passes.specs.Steps.{candidate}
 use Rattle.passes.proofs.Tests.{and-passed}
-use Rattle.passes.proofs.Waits.{picked-start, picked-hit, picked-miss, pick-one, candidates-all}
+use Rattle.passes.proofs.Waits.{picked-start, Picks, picks-hit, picks-miss, candidates-all}
 use Rattle.passes.proofs.Walks.{arrived, picked-leap}
 use Rattle.passes.proofs.candidates.Statement.{statement}
 use Rattle.passes.proofs.candidates.Tie as tie
@@ -72,24 +72,17 @@ loop-again c =
     let r = s d .args in
     let k = k d .loop in
     let p = test (s d) in
-    let f = next d in
+    let f : Nearest (onAt (r .records .now) (r .kind) (r .x)) (length (eventsOf (r .records .now))) (k .a + 1) (c .at-place .result) = rw (c .at-place .ensures) (next d) in
     let leap = picked-leap f (behind (s d)) in
     let here = and-passed (onAt (r .records .now) (r .kind) (r .x) (k .a)) _ _ (k .inv .0 .hit (inside d)) (ap not (c .before .before .before .ordered .ensures)) in
     let room : k .c < length (r .out .now) = omega (arith, inside d, s d .pre .0 .0 .records .few, s d .pre .1 .2) in
-    rw (c .at-place .ensures) (⊎-elim
-    (λ w.
-    let q = leap ∙ picked-hit p (k .a) (sym here ∙ w .0 .taken) in
-    rw (w .1, w .2, q) (
-      arrived f,
-      omega (arith, f .low),
-      simp length-set (k .inv .2),
-      omega (arith, k .inv .3, length-append (picked p (k .a)) (k .a ∷ [])),
-      ap (λ (l : List ℕ). set l (k .c) (k .a)) (k .inv .4) ∙ pick-one (picked p (k .a)) (r .out .now) (k .c) (k .a) (k .inv .3) room,
-    ))
-    (λ w.
-    let q = leap ∙ picked-miss p (k .a) (sym here ∙ w .0 .left) in
-    rw (w .1, w .2, q) (arrived f, omega (arith, f .low), k .inv .2, k .inv .3, k .inv .4))
-    (c .before .before .if1 .came))
+    let i : Picks p (r .out .now) (k .a) (k .c) (k .out) = (k .inv .1, k .inv .2, k .inv .3, k .inv .4) in
+    let now = c .before .before .if1 in
+    let next = ⊎-elim {C = Picks p (r .out .now) (c .at-place .result) (now .c) (now .out)}
+    (λ w. picks-hit p (r .out .now) (k .out) (k .a) (c .at-place .result) (k .c) i (f .low) leap (sym here ∙ w .0 .taken) room (now .out) (now .c) (w .1) (w .2))
+    (λ w. picks-miss p (r .out .now) (k .out) (k .a) (c .at-place .result) (k .c) i (f .low) leap (sym here ∙ w .0 .left) (now .out) (now .c) (w .1) (w .2))
+    (now .came) in
+    (arrived f, next .0, next .1, next .2, next .3)
 
 returns : tie.Need-returns Inv-loop μ-loop
 returns c =
