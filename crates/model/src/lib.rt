@@ -195,17 +195,7 @@ impl Refusal {
             Refusal::Life(e) => e,
             Refusal::Empty(e) => e,
             Refusal::Flag(e) => e,
-            Refusal::Short => 0,
-            Refusal::Edition => 0,
-            Refusal::Extent => 0,
-            Refusal::Count => 0,
-            Refusal::Work => 0,
-            Refusal::List(_) => 0,
-            Refusal::Event => 0,
-            Refusal::Out => 0,
-            Refusal::Starts => 0,
-            Refusal::Differ { .. } => 0,
-            Refusal::Unsure => 0,
+            _ => 0,
         }
     }
 
@@ -215,21 +205,7 @@ impl Refusal {
     {
         match self {
             Refusal::List(n) => n,
-            Refusal::Short => 0,
-            Refusal::Edition => 0,
-            Refusal::Extent => 0,
-            Refusal::Count => 0,
-            Refusal::Kind(_) => 0,
-            Refusal::Name(_) => 0,
-            Refusal::Life(_) => 0,
-            Refusal::Empty(_) => 0,
-            Refusal::Work => 0,
-            Refusal::Event => 0,
-            Refusal::Out => 0,
-            Refusal::Starts => 0,
-            Refusal::Differ { .. } => 0,
-            Refusal::Unsure => 0,
-            Refusal::Flag(_) => 0,
+            _ => 0,
         }
     }
 
@@ -239,21 +215,7 @@ impl Refusal {
     {
         match self {
             Refusal::Differ { task, .. } => task,
-            Refusal::Short => 0,
-            Refusal::Edition => 0,
-            Refusal::Extent => 0,
-            Refusal::Count => 0,
-            Refusal::Kind(_) => 0,
-            Refusal::Name(_) => 0,
-            Refusal::Life(_) => 0,
-            Refusal::Empty(_) => 0,
-            Refusal::Work => 0,
-            Refusal::List(_) => 0,
-            Refusal::Event => 0,
-            Refusal::Out => 0,
-            Refusal::Starts => 0,
-            Refusal::Unsure => 0,
-            Refusal::Flag(_) => 0,
+            _ => 0,
         }
     }
 
@@ -263,21 +225,7 @@ impl Refusal {
     {
         match self {
             Refusal::Differ { position, .. } => position,
-            Refusal::Short => 0,
-            Refusal::Edition => 0,
-            Refusal::Extent => 0,
-            Refusal::Count => 0,
-            Refusal::Kind(_) => 0,
-            Refusal::Name(_) => 0,
-            Refusal::Life(_) => 0,
-            Refusal::Empty(_) => 0,
-            Refusal::Work => 0,
-            Refusal::List(_) => 0,
-            Refusal::Event => 0,
-            Refusal::Out => 0,
-            Refusal::Starts => 0,
-            Refusal::Unsure => 0,
-            Refusal::Flag(_) => 0,
+            _ => 0,
         }
     }
 }

@@ -1,43 +1,42 @@
--- Refusal::pairs meets its contract: the arm of 10 answers its pairs, any other 0.
+-- Refusal::pairs meets its contract: the arm of 10 answers its pairs, the other 0.
 -- Assumes nothing.
-use mathlib.Core.Path.{sym, ap}
+use Prim.Native.Nat.{ℕ}
+use mathlib.Core.Path.{_≡_, refl, sym, ap}
+use mathlib.Core.List.{List, [], _∷_}
+use types.Run.{OneOf, miss}
+use denote.Enum.Declared.{tagOf}
+use Rattle.model.specs.declared.Refusal.{Refusal}
+use Rattle.model.proofs.Refusal.{the-type}
 use Rattle.model.specs.Refusals.{pairsOf}
 use Rattle.model.proofs.Refusal.pairs.Statement.{statement}
 use Rattle.model.proofs.Refusal.pairs.Tie as tie
+
+-- the refusals of the last arm
+abbrev others : List ℕ
+others = 0 ∷ 1 ∷ 2 ∷ 3 ∷ 4 ∷ 5 ∷ 6 ∷ 7 ∷ 8 ∷ 10 ∷ 11 ∷ 12 ∷ 13 ∷ 14 ∷ 15 ∷ []
+
+none : (r : Refusal) → OneOf others (tagOf the-type r) → 0 ≡ pairsOf r
+none Refusal.Short h = refl
+none Refusal.Edition h = refl
+none Refusal.Extent h = refl
+none Refusal.Count h = refl
+none (Refusal.Kind e) h = refl
+none (Refusal.Name e) h = refl
+none (Refusal.Life e) h = refl
+none (Refusal.Empty e) h = refl
+none Refusal.Work h = refl
+none (Refusal.List n) h = absurd (miss others 9 tt h)
+none Refusal.Event h = refl
+none Refusal.Out h = refl
+none Refusal.Starts h = refl
+none (Refusal.Differ t p) h = refl
+none Refusal.Unsure h = refl
+none (Refusal.Flag e) h = refl
 
 pub pairs-spec : {M : Type 1} → statement M
 pairs-spec =
     tie.close
     (tie.spec
     (λ c. c .match .keys1)
-    (λ c. c .match .keys2)
-    (λ c. c .match .keys3)
-    (λ c. c .match .keys4)
-    (λ c. c .match .keys5)
-    (λ c. c .match .keys6)
-    (λ c. c .match .keys7)
-    (λ c. c .match .keys8)
-    (λ c. c .match .keys9)
-    (λ c. c .match .keys10)
-    (λ c. c .match .keys11)
-    (λ c. c .match .keys12)
-    (λ c. c .match .keys13)
-    (λ c. c .match .keys14)
-    (λ c. c .match .keys15)
-    (λ c. c .match .keys16)
     (λ c. sym (ap pairsOf (c .before .self .given .1)))
-    (λ c. sym (ap pairsOf (c .enum-told .given .1)))
-    (λ c. sym (ap pairsOf (c .enum-told2 .given .1)))
-    (λ c. sym (ap pairsOf (c .enum-told3 .given .1)))
-    (λ c. sym (ap pairsOf (c .enum-told4 .given .1)))
-    (λ c. sym (ap pairsOf (c .enum-told5 .given .1)))
-    (λ c. sym (ap pairsOf (c .enum-told6 .given .1)))
-    (λ c. sym (ap pairsOf (c .enum-told7 .given .1)))
-    (λ c. sym (ap pairsOf (c .enum-told8 .given .1)))
-    (λ c. sym (ap pairsOf (c .enum-told9 .given .1)))
-    (λ c. sym (ap pairsOf (c .enum-told10 .given .1)))
-    (λ c. sym (ap pairsOf (c .enum-told11 .given .1)))
-    (λ c. sym (ap pairsOf (c .enum-told12 .given .1)))
-    (λ c. sym (ap pairsOf (c .enum-told13 .given .1)))
-    (λ c. sym (ap pairsOf (c .enum-told14 .given .1)))
-    (λ c. sym (ap pairsOf (c .enum-told15 .given .1))))
+    (λ c. none (c .before .args .self) (c .match .keys2)))
