@@ -1,84 +1,31 @@
 // One reading of a file, from the first record to the last: the refusals, each record's place in its
-// task, and the events that it follows. The state is a slice of numbers by task, by semaphore and by
-// flag; an event in it is its number plus 1, and 0 stands for none. The levels are a slice of numbers:
-// by semaphore the start counts, all 0 in edition 1, then by flag the post counts.
-ghost use Prim.Native.Nat.{_+_, _*_, _≤_};
-ghost use lib.ListN.{length};
+// task, the events that it follows, and the recorded vectors.
+ghost use Prim.Native.Nat.{_≤_};
 ghost use mathlib.Core.Path.{_≡_};
-ghost use mathlib.Core.Bool.{false};
-ghost use Rattle.second.specs.Answers.{
-  Refused,
-  RecordFault,
-  Known,
-  LevelBytes,
-  TrailerOf,
-  TrailerFor,
-  Blank,
-  FirstFault,
-};
-use crate::memory::KIND;
-use crate::memory::OBJECT;
-use crate::memory::POSITION;
-use crate::memory::TASK;
+use crate::Reading;
+use crate::Told;
+use crate::bare;
 use crate::memory::at;
 use crate::memory::byte;
-use crate::memory::double;
-use crate::memory::field;
-use crate::memory::get;
-use crate::memory::is_on;
+use crate::memory::part_of;
 use crate::memory::put;
-use crate::memory::up;
 use crate::memory::word;
-
-// By task: the last event, how many events, the fork, and whether it has been joined.
-const LAST: u16 = 0;
-
-const STEPS: u16 = 256;
-
-const FORK: u16 = 512;
-
-const JOINED: u16 = 768;
-// By semaphore: how many signals and how many waits.
-const SIGNALS: u16 = 1024;
-
-const WAITS: u16 = 1280;
-
-// By flag: how many posts.
-const POSTS: u16 = 1536;
-
-// Where the post counts start in the levels.
-pub(crate) const POST_COUNTS: u16 = 64;
-
-// By event, what it follows: the event before it in its task or the fork of its task; at a join the
-// fork and the last event of the joined task; at a wait the signal that it takes, and at a flag wait the
-// flag. A flag stands for one more event, behind the 1,024: it follows the posts that open it.
-pub(crate) const BEFORE: u16 = 0;
-
-pub(crate) const FORKED: u16 = 1;
-
-pub(crate) const ENDED: u16 = 2;
-
-pub(crate) const TAKEN: u16 = 3;
-
-// Behind these, by event: the flag that a post opens.
-const OPENED: u16 = 4096;
-
-// The number of the first flag, as an event.
-const FIRST_FLAG: u16 = 1024;
-
-// A trailer, with the number of start bytes before it, and as many post bytes as flags; refusal is 0
-// where 1 to 4 do not apply.
-pub(crate) struct Trailer {
-    pub(crate) refusal: u16,
-    pub(crate) start: usize,
-    pub(crate) events: u16,
-    pub(crate) tasks: u16,
-    pub(crate) semaphores: u16,
-    pub(crate) flags: u16,
-    pub(crate) cells: u16,
-    pub(crate) edition: u16,
-    pub(crate) starts: u16,
-}
+use crate::state::BEFORE;
+use crate::state::KIND;
+use crate::state::LAST;
+use crate::state::LEVEL;
+use crate::state::LINK;
+use crate::state::OBJECT;
+use crate::state::POSITION;
+use crate::state::SEEN;
+use crate::state::TASK;
+use crate::state::is_on;
+use crate::state::named;
+use crate::state::set;
+use crate::state::tally;
+use crate::vectors::replay;
+use std::num::wrapping_add_u16;
+use std::num::wrapping_add_usize;
 
 // What the semaphore field of a trailer counts, and how many start bytes that makes.
 pub(crate) struct Levels {
@@ -87,18 +34,22 @@ pub(crate) struct Levels {
     pub(crate) starts: u16,
 }
 
-// A refusal by a record; the number is 0 where there is none.
-pub(crate) struct Fault {
-    pub(crate) number: u16,
-    pub(crate) record: u16,
-}
+// The parts of a file between its preamble and its trailer.
+pub(crate) const RECORDS: u16 = 0;
 
-// A trailer with nothing but a refusal.
-pub(crate) fn refused(number: u16) -> Trailer
-    ensures { λ h. ⌜ Blank number h ⌝ }
+pub(crate) const STARTS: u16 = 1;
+
+pub(crate) const POSTS: u16 = 2;
+
+// ---- the trailer
+
+// A reading with nothing but a refusal.
+fn refused(number: u16) -> Reading
+    ensures { λ r. ⌜ r .refusal ≡ number ⌝ }
 {
-    Trailer {
+    Reading {
         refusal: number,
+        record: 0,
         start: 0,
         events: 0,
         tasks: 0,
@@ -110,20 +61,8 @@ pub(crate) fn refused(number: u16) -> Trailer
     }
 }
 
-// No edition of the file but 1 to 3.
-pub(crate) fn unknown(edition: u16) -> bool
-    ensures { λ r. ⌜ (r ≡ false → Known edition) ⌝ }
-{
-    if edition < 1 {
-        return true;
-    }
-    3 < edition
-}
-
 // What the semaphore field of an edition counts: in edition 3 its low byte semaphores, its high byte flags.
-pub(crate) fn levels_of(edition: u16, field: u16) -> Levels
-    ensures { λ l. ⌜ LevelBytes edition (l .semaphores) (l .flags) (l .starts) ⌝ }
-{
+pub(crate) fn levels_of(edition: u16, field: u16) -> Levels {
     if edition == 3 {
         return Levels {
             semaphores: field % 256,
@@ -138,38 +77,34 @@ pub(crate) fn levels_of(edition: u16, field: u16) -> Levels
     }
 }
 
-// A trailer of these counts, or refusal 4 where one is beyond its range.
-pub(crate) fn ranged(
+// The reading of these counts; or refusal 2, 3 where the extent is not met, or 4.
+pub(crate) fn counted(
     start: usize,
     n: usize,
     tasks: u16,
     levels: Levels,
     cells: u16,
     edition: u16,
-) -> Trailer
-    requires { ⌜ Known edition × LevelBytes edition (levels .semaphores) (levels .flags) (levels .starts) ⌝ }
-    ensures { λ h. ⌜ TrailerOf start n (levels .starts + levels .flags) h ⌝ }
+    met: bool,
+) -> Reading
+    ensures { λ r. ⌜ r .refusal ≤ 16 ⌝ }
 {
-    if tasks < 1 {
-        return refused(4);
+    if (edition < 1) | (3 < edition) {
+        return refused(2);
     }
-    if 16 < tasks {
-        return refused(4);
+    if !met {
+        return refused(3);
     }
-    if 64 < levels.semaphores {
-        return refused(4);
-    }
-    if 64 < levels.flags {
-        return refused(4);
-    }
-    if 1024 < cells {
+    let few = (tasks < 1) | (16 < tasks) | (1024 < cells);
+    if few | (64 < levels.semaphores) | (64 < levels.flags) {
         return refused(4);
     }
     if 1024 < n {
         return refused(4);
     }
-    Trailer {
+    Reading {
         refusal: 0,
+        record: 0,
         start,
         events: n as u16,
         tasks,
@@ -181,160 +116,149 @@ pub(crate) fn ranged(
     }
 }
 
-// Refusals 1 to 4, but for the post counts.
-fn read_counts(file: &[u8]) -> Trailer
-    ensures { λ h. ⌜ TrailerFor (length (now (file .entry))) h ⌝ }
-{
-    let size = file.len();
-    if size < 16 {
-        return refused(1);
+// A part of a file that was read so.
+pub(crate) fn section(file: &[u8], r: Reading, part: u16) -> &[u8] {
+    let end = wrapping_add_usize(r.start, r.events as usize * 4);
+    let mid = wrapping_add_usize(end, r.starts as usize);
+    if part == RECORDS {
+        return part_of(file, r.start, end);
     }
-    let end = size - 16;
-    let t = &file[end..];
-    let edition = word(t, 14);
-    if unknown(edition) {
-        return refused(2);
+    if part == STARTS {
+        return part_of(file, end, mid);
     }
-    let start = double(t, 0) as usize;
-    let records = double(t, 4) as usize;
-    let levels = levels_of(edition, word(t, 10));
-    if start + 4 * records + levels.starts as usize + levels.flags as usize != end {
-        return refused(3);
-    }
-    ranged(start, records, word(t, 8), levels, word(t, 12), edition)
+    part_of(file, mid, wrapping_add_usize(mid, r.flags as usize))
 }
 
-// Whether one of the bytes is 0.
-pub(crate) fn has_zero(bytes: &[u8]) -> bool {
-    for i in 0..bytes.len() {
-        if byte(bytes, i) == 0 {
+// Whether one of the first n bytes is the same in both slices, or else whether one differs. Behind its
+// end a slice has 0.
+pub(crate) fn some_byte(a: &[u8], b: &[u8], n: usize, same: bool) -> bool {
+    for i in 0..n {
+        if (byte(a, i) == byte(b, i)) == same {
             return true;
         }
     }
     false
 }
 
-// Refusals 1 to 4.
-pub(crate) fn read_trailer(file: &[u8]) -> Trailer
-    ensures { λ h. ⌜ TrailerFor (length (now (file .entry))) h ⌝ }
+// Whether one of the bytes is 0.
+pub(crate) fn has_zero(bytes: &[u8]) -> bool {
+    some_byte(bytes, part_of(bytes, 0, 0), bytes.len(), true)
+}
+
+// What the trailer says, or refusals 1 to 4.
+fn read_trailer(file: &[u8]) -> Reading
+    ensures { λ r. ⌜ r .refusal ≤ 16 ⌝ }
 {
-    let h = read_counts(file);
-    let from = h.start + 4 * (h.events as usize) + h.starts as usize;
-    let to = from + h.flags as usize;
-    if has_zero(&file[from..to]) {
+    if file.len() < 16 {
+        return refused(1);
+    }
+    let end = file.len() - 16;
+    let t = part_of(file, end, file.len());
+    let start = word(t, 0) as usize + word(t, 2) as usize * 65536;
+    let n = word(t, 4) as usize + word(t, 6) as usize * 65536;
+    let edition = word(t, 14);
+    let levels = levels_of(edition, word(t, 10));
+    let met = start + 4 * n + levels.starts as usize + levels.flags as usize == end;
+    let r = counted(start, n, word(t, 8), levels, word(t, 12), edition, met);
+    if has_zero(section(file, r, POSTS)) {
         return refused(4);
     }
-    h
+    r
 }
 
-pub(crate) fn slot(base: u16, i: u16) -> usize {
-    base as usize + i as usize
+// ---- one record
+
+// A record, with the start count of its semaphore or the post count of its flag.
+struct Record {
+    task: u16,
+    kind: u16,
+    object: u16,
+    level: u16,
 }
 
-// The levels from the first one on, out of n start bytes or post bytes.
-pub(crate) fn take_levels(part: &[u8], n: u16, first: u16, levels: &mut [u16]) {
-    for i in 0..n {
-        put(levels, slot(first, i), byte(part, i as usize));
+// The start count of a semaphore, or else the post count of a flag.
+fn level_of(starts: &[u8], posts: &[u8], kind: u16, object: u16) -> u16 {
+    if kind <= 2 {
+        return byte(starts, object as usize) as u16;
     }
+    byte(posts, object as usize) as u16
 }
 
-// The fields of record e, taken out of the record bytes.
-fn decode(records: &[u8], e: u16, events: &mut [u16]) {
-    let p = e as usize * 4;
-    let low = byte(records, p + 2) % 256;
-    let high = byte(records, p + 3) % 256;
-    put(events, field(e, TASK), byte(records, p));
-    put(events, field(e, KIND), byte(records, p + 1));
-    put(events, field(e, OBJECT), low + high * 256);
+// A record of these bytes.
+fn decode(bytes: &[u8], starts: &[u8], posts: &[u8]) -> Record {
+    let kind = byte(bytes, 1) as u16;
+    let object = word(bytes, 2);
+    Record {
+        task: byte(bytes, 0) as u16,
+        kind,
+        object,
+        level: level_of(starts, posts, kind, object),
+    }
 }
 
 // How many names the objects of a kind have.
-fn names(kind: u16, h: Trailer) -> u16 {
-    if kind <= 2 {
-        return h.semaphores;
+fn names(kind: u16, r: Reading) -> u16 {
+    match kind {
+        1 | 2 => r.semaphores,
+        3 | 4 => r.tasks,
+        5 | 6 => r.cells,
+        _ => r.flags,
     }
-    if kind <= 4 {
-        return h.tasks;
-    }
-    if kind <= 6 { h.cells } else { h.flags }
 }
 
-fn last_kind(edition: u16) -> u16 {
-    if edition == 3 { 8 } else { 6 }
+// How many events of a kind on an object there are so far, or of a task where the kind is 0.
+fn seen(state: &[u16], kind: u16, object: u16) -> u16 {
+    at(state, tally(SEEN, kind, object))
 }
 
-fn fork_broken(state: &[u16], task: u16, object: u16) -> bool {
-    object == task || at(state, slot(FORK, object)) != 0 || at(state, slot(STEPS, object)) != 0
+// One of the rules on a task's life is broken: by a task that has been joined, by a fork of a task that
+// was forked or has events, or by a join of a task that was not forked or was joined.
+fn life_broken(state: &[u16], x: Record) -> bool {
+    let own = x.object == x.task;
+    let forked = seen(state, 3, x.object) != 0;
+    let joined = seen(state, 4, x.object) != 0;
+    let fork = (x.kind == 3) & (own | forked | (seen(state, 0, x.object) != 0));
+    let join = (x.kind == 4) & (own | !forked | joined);
+    fork | join | (seen(state, 4, x.task) != 0)
 }
 
-fn join_broken(state: &[u16], task: u16, object: u16) -> bool {
-    object == task || at(state, slot(FORK, object)) == 0 || at(state, slot(JOINED, object)) != 0
-}
-
-fn life_broken(state: &[u16], task: u16, kind: u16, object: u16) -> bool {
-    if at(state, slot(JOINED, task)) != 0 {
-        return true;
-    }
-    if kind == 3 {
-        return fork_broken(state, task, object);
-    }
-    if kind == 4 {
-        return join_broken(state, task, object);
-    }
-    false
-}
-
-// Start count and signals so far do not outnumber the waits so far.
-fn is_empty(levels: &[u16], state: &[u16], object: u16) -> bool {
-    let start = at(levels, object as usize) as u32;
-    let signals = at(state, slot(SIGNALS, object)) as u32;
-    let waits = at(state, slot(WAITS, object)) as u32;
-    start + signals <= waits
-}
-
-// The posts so far are fewer than the post count.
-fn is_down(levels: &[u16], state: &[u16], object: u16) -> bool {
-    at(state, slot(POSTS, object)) < at(levels, slot(POST_COUNTS, object))
-}
-
-// Refusals 5 to 8 and 16 of record e; 0 for none.
-fn fault_of(events: &[u16], e: u16, h: Trailer, levels: &[u16], state: &[u16]) -> u16
-    ensures { λ r. ⌜ RecordFault r ⌝ }
+// Refusals 5 to 8 and 16 of a record; 0 for none.
+fn fault_of(state: &[u16], x: Record, r: Reading) -> u16
+    ensures { λ n. ⌜ n ≤ 16 ⌝ }
 {
-    let task = get(events, e, TASK);
-    let kind = get(events, e, KIND);
-    let object = get(events, e, OBJECT);
-    if kind < 1 || last_kind(h.edition) < kind {
+    if (x.kind < 1) | (8 < x.kind) | ((6 < x.kind) & (r.edition != 3)) {
         return 5;
     }
-    if h.tasks <= task || names(kind, h) <= object {
+    if (r.tasks <= x.task) | (names(x.kind, r) <= x.object) {
         return 6;
     }
-    if life_broken(state, task, kind, object) {
+    if life_broken(state, x) {
         return 7;
     }
-    if kind == 2 && is_empty(levels, state, object) {
+    let stock = wrapping_add_u16(x.level, seen(state, 1, x.object));
+    if (x.kind == 2) & (stock <= seen(state, 2, x.object)) {
         return 8;
     }
-    if kind == 8 && is_down(levels, state, object) {
+    if (x.kind == 8) & (seen(state, 7, x.object) < x.level) {
         return 16;
     }
     0
 }
 
-// One more at a place of the state.
-fn add_one(state: &mut [u16], i: usize) {
-    let count = up(at(state, i));
-    put(state, i, count);
-}
+// ---- the records in order
 
-// The signal on a semaphore before event e that has so many signals on it before itself, plus 1; 0 for none.
-fn signal_after(events: &[u16], e: u16, object: u16, skipped: u16) -> u16 {
-    let mut left = skipped;
+// The signal that a wait e takes: the first that has as many signals on the semaphore before itself as
+// there were waits that took one. The first waits, as many as the start count, take none: 0.
+fn signal_for(state: &[u16], e: u16, x: Record) -> u16 {
+    let waits = seen(state, 2, x.object);
+    if waits < x.level {
+        return 0;
+    }
+    let mut left = waits - x.level;
     for s in 0..e {
-        if is_on(events, s, 1, object) {
+        if is_on(state, s, 1, x.object) {
             if left == 0 {
-                return up(s);
+                return wrapping_add_u16(s, 1);
             }
             left -= 1;
         }
@@ -342,165 +266,113 @@ fn signal_after(events: &[u16], e: u16, object: u16, skipped: u16) -> u16 {
     0
 }
 
-// Event e takes a signal, but for the first waits, as many as the start count.
-fn note_wait(
-    e: u16,
-    object: u16,
-    levels: &[u16],
-    events: &[u16],
-    links: &mut [u16],
-    state: &mut [u16],
-) {
-    let start = at(levels, object as usize);
-    let waits = at(state, slot(WAITS, object));
-    let signal = if start <= waits {
-        signal_after(events, e, object, waits - start)
-    } else {
-        0
-    };
-    put(links, field(e, TAKEN), signal);
-    add_one(state, slot(WAITS, object));
-}
-
-fn note_join(e: u16, object: u16, links: &mut [u16], state: &mut [u16]) {
-    put(links, field(e, FORKED), at(state, slot(FORK, object)));
-    put(links, field(e, ENDED), at(state, slot(LAST, object)));
-    put(state, slot(JOINED, object), 1);
-}
-
-// A flag as a link: its number as an event, plus 1.
-fn flag_link(object: u16) -> u16 {
-    FIRST_FLAG + object % 64 + 1
-}
-
-// The flag that event e opens, as a link; 0 for none.
-pub(crate) fn opened(links: &[u16], e: u16) -> u16 {
-    at(links, slot(OPENED, e))
-}
-
-// The first posts, as many as the post count, open their flag.
-fn note_post(e: u16, object: u16, levels: &[u16], links: &mut [u16], state: &mut [u16]) {
-    let opens = is_down(levels, state, object);
-    let flag = if opens { flag_link(object) } else { 0 };
-    put(links, slot(OPENED, e), flag);
-    add_one(state, slot(POSTS, object));
-}
-
-// What a post or a flag wait changes.
-fn note_flag(e: u16, kind: u16, object: u16, levels: &[u16], links: &mut [u16], state: &mut [u16]) {
-    if kind == 7 {
-        note_post(e, object, levels, links, state);
-        return;
-    }
-    if kind == 8 {
-        put(links, field(e, TAKEN), flag_link(object));
+// What event e follows but for the event before it, or the flag that it opens; 0 for none. The first
+// posts open a flag, as many as its post count.
+fn link_of(state: &[u16], e: u16, x: Record) -> u16 {
+    let flag = x.object % 64 + 1025;
+    let kind = x.kind;
+    match kind {
+        2 => signal_for(state, e, x),
+        4 => at(state, tally(LAST, 0, x.object)),
+        7 => {
+            if seen(state, 7, x.object) < x.level {
+                flag
+            } else {
+                0
+            }
+        }
+        8 => flag,
+        _ => 0,
     }
 }
 
-// Event e as the next one of its task.
-fn note_step(e: u16, task: u16, events: &mut [u16], links: &mut [u16], state: &mut [u16]) {
-    let last = at(state, slot(LAST, task));
-    let fork = at(state, slot(FORK, task));
-    put(links, field(e, BEFORE), if last != 0 { last } else { fork });
-    let steps = up(at(state, slot(STEPS, task)));
-    put(state, slot(STEPS, task), steps);
-    put(events, field(e, POSITION), steps);
-    put(state, slot(LAST, task), up(e));
+// Event e as a record, and what it follows.
+fn keep(e: u16, x: Record, state: &mut [u16]) {
+    set(state, e, TASK, x.task);
+    set(state, e, KIND, x.kind);
+    set(state, e, OBJECT, x.object);
+    set(state, e, LEVEL, x.level);
+    set(state, e, BEFORE, at(state, tally(LAST, 0, x.task)));
+    set(state, e, LINK, link_of(state, e, x));
 }
 
-// What the kind of event e changes.
-fn note_kind(e: u16, levels: &[u16], events: &[u16], links: &mut [u16], state: &mut [u16]) {
-    let kind = get(events, e, KIND);
-    let object = get(events, e, OBJECT);
-    if kind == 1 {
-        add_one(state, slot(SIGNALS, object));
-        return;
-    }
-    if kind == 2 {
-        note_wait(e, object, levels, events, links, state);
-        return;
-    }
-    if kind == 3 {
-        put(state, slot(FORK, object), up(e));
-        return;
-    }
-    if kind == 4 {
-        note_join(e, object, links, state);
-        return;
-    }
-    note_flag(e, kind, object, levels, links, state);
+// Counts event e under a kind and an object.
+fn note(e: u16, kind: u16, object: u16, state: &mut [u16]) {
+    let i = tally(SEEN, kind, object);
+    put(state, i, wrapping_add_u16(at(state, i), 1));
+    put(state, tally(LAST, kind, object), wrapping_add_u16(e, 1));
 }
 
-// Event e is taken into the state.
-fn note(e: u16, levels: &[u16], events: &mut [u16], links: &mut [u16], state: &mut [u16]) {
-    let task = get(events, e, TASK);
-    note_step(e, task, events, links, state);
-    note_kind(e, levels, events, links, state);
+// Counts event e under its kind and object and under its task, which gives its position.
+fn name(e: u16, x: Record, state: &mut [u16]) {
+    note(e, x.kind, x.object, state);
+    note(e, 0, x.task, state);
+    let position = seen(state, 0, x.task);
+    set(state, e, POSITION, position);
+    put(state, named(x.task, position), wrapping_add_u16(e, 1));
 }
 
-// Record e is taken out, checked, and taken into the state; its refusal, or 0.
-fn step(
-    records: &[u8],
-    e: u16,
-    h: Trailer,
-    levels: &[u16],
-    events: &mut [u16],
-    links: &mut [u16],
-    state: &mut [u16],
-) -> u16
-    ensures { λ r. ⌜ RecordFault r ⌝ }
+// A fork is the last event of the task that it names, before the first.
+fn note_fork(e: u16, x: Record, state: &mut [u16]) {
+    if x.kind == 3 {
+        put(state, tally(LAST, 0, x.object), wrapping_add_u16(e, 1));
+    }
+}
+
+// A record is checked, and taken into the state as event e; its refusal, or 0.
+fn step(e: u16, x: Record, r: Reading, state: &mut [u16]) -> u16
+    ensures { λ n. ⌜ n ≤ 16 ⌝ }
 {
-    decode(records, e, events);
-    let number = fault_of(events, e, h, levels, state);
+    let number = fault_of(state, x, r);
     if number != 0 {
         return number;
     }
-    note(e, levels, events, links, state);
+    keep(e, x, state);
+    name(e, x, state);
+    note_fork(e, x, state);
+    replay(state, e, x.task);
     0
 }
 
-// The records in order, up to the first faulty one.
+// The first fault of n records, with the counts that were read.
 pub(crate) fn scan(
     records: &[u8],
-    h: Trailer,
-    levels: &[u16],
-    events: &mut [u16],
-    links: &mut [u16],
+    starts: &[u8],
+    posts: &[u8],
+    r: Reading,
     state: &mut [u16],
-) -> Fault
-    ensures { λ f. ⌜ Refused 8 (h .events) (f .number) (f .«record») ⌝ }
+) -> Told
+    ensures { λ o. ⌜ o .refusal ≤ 16 ⌝ }
 {
-    let n = h.events;
+    let n = r.events;
     for e in 0..n {
-        let number = step(records, e, h, levels, events, links, state);
+        let p = e as usize * 4;
+        let x = decode(part_of(records, p, p + 4), starts, posts);
+        let number = step(e, x, r, state);
         if number != 0 {
-            return Fault { number, record: e };
+            return bare(number, e);
         }
     }
-    Fault {
-        number: 0,
-        record: 0,
-    }
+    bare(0, 0)
 }
 
-// The refusal of a trailer, or else of the first faulty record behind its start.
-pub(crate) fn first_fault(
-    file: &[u8],
-    h: Trailer,
-    levels: &[u16],
-    events: &mut [u16],
-    links: &mut [u16],
-) -> Fault
-    requires { ⌜ (h .refusal ≤ 4) × (h .start ≤ length (now file)) ⌝ }
-    ensures { λ f. ⌜ FirstFault h f ⌝ }
+// Reads a file, and leaves its state.
+pub(crate) fn load(file: &[u8], state: &mut [u16]) -> Reading
+    ensures { λ r. ⌜ r .refusal ≤ 16 ⌝ }
 {
-    if h.refusal != 0 {
-        return Fault {
-            number: h.refusal,
-            record: 0,
-        };
+    let mut r = read_trailer(file);
+    if r.refusal != 0 {
+        return r;
     }
-    let start = h.start;
-    let mut state = [0u16; 1792];
-    scan(&file[start..], h, levels, events, links, &mut state)
+    let records = section(file, r, RECORDS);
+    let fault = scan(
+        records,
+        section(file, r, STARTS),
+        section(file, r, POSTS),
+        r,
+        state,
+    );
+    r.refusal = fault.refusal;
+    r.record = fault.record;
+    r
 }

@@ -1,272 +1,239 @@
-// Safe and recorded vectors, sixteen numbers an event; behind those of 1,024 events, the recorded ones
-// have sixteen for each of 64 flags. The k-th least is found by counting how often each value occurs.
-ghost use Rattle.second.specs.Answers.{Passed};
-use crate::memory::KIND;
-use crate::memory::OBJECT;
-use crate::memory::POSITION;
-use crate::memory::TASK;
+// Safe and recorded vectors. The k-th least is found by counting how often each value occurs.
+use crate::Reading;
 use crate::memory::at;
-use crate::memory::get;
-use crate::memory::is_on;
-use crate::memory::place;
 use crate::memory::put;
-use crate::memory::up;
-use crate::scan::BEFORE;
-use crate::scan::ENDED;
-use crate::scan::FORKED;
-use crate::scan::POST_COUNTS;
-use crate::scan::TAKEN;
-use crate::scan::opened;
-use crate::scan::slot;
+use crate::state::BEFORE;
+use crate::state::KIND;
+use crate::state::LEVEL;
+use crate::state::LINK;
+use crate::state::OBJECT;
+use crate::state::POSITION;
+use crate::state::RECORDED;
+use crate::state::SAFE;
+use crate::state::TASK;
+use crate::state::followed;
+use crate::state::get;
+use crate::state::is_on;
+use crate::state::opened;
+use crate::state::place;
+use std::num::wrapping_add_u16;
+use std::num::wrapping_add_u32;
+use std::num::wrapping_sub_u16;
 
 pub(crate) struct Passes {
     pub(crate) passes: u32,
     pub(crate) settled: bool,
 }
 
-fn clear(v: &mut [u16]) {
-    for i in 0..v.len() {
-        put(v, i, 0);
-    }
-}
-
-fn own_numbers(events: &[u16], n: u16, v: &mut [u16]) {
-    for e in 0..n {
-        put(v, place(e, get(events, e, TASK)), get(events, e, POSITION));
-    }
-}
-
-fn start(events: &[u16], n: u16, v: &mut [u16]) {
-    clear(v);
-    own_numbers(events, n, v);
+// What a wait finds among the events: how many waits on its semaphore are ordered before it, and how many
+// candidates there are.
+struct Found {
+    waits: u16,
+    candidates: u16,
 }
 
 // Raises one number, and answers whether it rose.
-fn lift(v: &mut [u16], e: u16, t: u16, value: u16) -> bool {
-    let i = place(e, t);
-    if value <= at(v, i) {
+fn lift(state: &mut [u16], i: usize, value: u16) -> bool {
+    if value <= at(state, i) {
         return false;
     }
-    put(v, i, value);
+    put(state, i, value);
     true
 }
 
-// Raises the vector of e by that of another event.
-fn raise(v: &mut [u16], e: u16, by: u16) -> bool {
+// Raises the vector of e by that of a link, and answers whether it rose.
+fn raise(state: &mut [u16], vectors: u16, e: u16, link: u16) -> bool {
+    if link == 0 {
+        return false;
+    }
     let mut rose = false;
     for t in 0..16u16 {
-        let value = at(v, place(by, t));
-        rose = lift(v, e, t, value) || rose;
+        let value = at(state, place(vectors, wrapping_sub_u16(link, 1), t));
+        rose = lift(state, place(vectors, e, t), value) | rose;
     }
     rose
 }
 
-// The same by a link of e, which is an event plus 1, or 0.
-fn raise_by(v: &mut [u16], links: &[u16], e: u16, link: u16) -> bool {
-    let other = get(links, e, link);
-    if other == 0 {
-        return false;
-    }
-    raise(v, e, other - 1)
-}
-
 // Step 1.
-fn follow(v: &mut [u16], links: &[u16], e: u16) -> bool {
-    let a = raise_by(v, links, e, BEFORE);
-    let b = raise_by(v, links, e, FORKED);
-    let c = raise_by(v, links, e, ENDED);
-    a || b || c
+fn follow(state: &mut [u16], e: u16) -> bool {
+    let link = if get(state, e, KIND) == 4 {
+        get(state, e, LINK)
+    } else {
+        0
+    };
+    let rose = raise(state, SAFE, e, get(state, e, BEFORE));
+    raise(state, SAFE, e, link) | rose
 }
 
-// The recorded vectors.
-pub(crate) fn replay(events: &[u16], links: &[u16], n: u16, v: &mut [u16]) {
-    start(events, n, v);
-    replay_all(links, n, v);
-}
-
-fn replay_all(links: &[u16], n: u16, v: &mut [u16]) {
-    for e in 0..n {
-        replay_event(links, e, v);
-    }
-}
-
-// Event e follows the signal that it takes or its flag; a flag follows the posts that open it.
-fn replay_event(links: &[u16], e: u16, v: &mut [u16]) {
-    follow(v, links, e);
-    raise_by(v, links, e, TAKEN);
-    let flag = opened(links, e);
+// The starting vector of event e, and its recorded one. A flag follows the posts that open it.
+pub(crate) fn replay(state: &mut [u16], e: u16, task: u16) {
+    let position = get(state, e, POSITION);
+    put(state, place(SAFE, e, task), position);
+    put(state, place(RECORDED, e, task), position);
+    raise(state, RECORDED, e, get(state, e, BEFORE));
+    raise(state, RECORDED, e, followed(state, e));
+    let flag = opened(state, e);
     if flag != 0 {
-        raise(v, flag - 1, e);
+        raise(state, RECORDED, flag - 1, wrapping_add_u16(e, 1));
     }
 }
 
 // Event a is ordered before event b.
-pub(crate) fn before(events: &[u16], v: &[u16], a: u16, b: u16) -> bool {
-    a != b && get(events, a, POSITION) <= at(v, place(b, get(events, a, TASK)))
+pub(crate) fn before(state: &[u16], vectors: u16, a: u16, b: u16) -> bool {
+    let number = at(state, place(vectors, b, get(state, a, TASK)));
+    (a != b) & (get(state, a, POSITION) <= number)
 }
 
-// How many waits on e's semaphore are ordered before e.
-fn earlier_waits(events: &[u16], n: u16, v: &[u16], e: u16) -> u16 {
-    let object = get(events, e, OBJECT);
-    let mut count = 0;
-    for w in 0..n {
-        if is_on(events, w, 2, object) && before(events, v, w, e) {
-            count = up(count);
-        }
-    }
-    count
+pub(crate) fn unordered(state: &[u16], vectors: u16, a: u16, b: u16) -> bool {
+    !(before(state, vectors, a, b) | before(state, vectors, b, a))
 }
 
-// Whether event s serves e: a signal a wait on its semaphore, a post a flag wait on its flag.
-fn serves(events: &[u16], s: u16, e: u16) -> bool {
-    let kind = if get(events, e, KIND) == 2 { 1 } else { 7 };
-    is_on(events, s, kind, get(events, e, OBJECT))
-}
-
-// Puts s behind the candidates of a wait e, where it is one, and answers how many there are.
-fn add_candidate(events: &[u16], v: &[u16], e: u16, s: u16, found: &mut [u16], count: u16) -> u16 {
-    if !serves(events, s, e) || before(events, v, e, s) {
-        return count;
-    }
-    put(found, count as usize, s);
-    up(count)
-}
-
-// The candidates of a wait e, in the order of the file, and how many they are.
-fn candidates(events: &[u16], n: u16, v: &[u16], e: u16, found: &mut [u16]) -> u16 {
-    let mut count = 0;
-    for s in 0..n {
-        count = add_candidate(events, v, e, s, found, count);
-    }
-    count
-}
-
-// How often each value occurs among the candidates' numbers for a task.
-fn tally(v: &[u16], t: u16, found: &[u16], count: u16, bins: &mut [u16]) {
-    for i in 0..count {
-        let value = at(v, place(at(found, i as usize), t)) as usize;
-        put(bins, value, up(at(bins, value)));
+// Counts the numbers of a candidate, by value and task.
+fn count_numbers(state: &[u16], s: u16, counts: &mut [u16]) {
+    for t in 0..16u16 {
+        let i = at(state, place(SAFE, s, t)) as usize * 16 + t as usize;
+        put(counts, i, wrapping_add_u16(at(counts, i), 1));
     }
 }
 
-// The k-th least value that was counted, or 0.
-fn kth(bins: &[u16], k: u16) -> u16 {
-    let mut passed: u32 = 0;
+// Goes on to event x: a wait that is ordered before e, or a candidate of e.
+fn meet(state: &[u16], e: u16, x: u16, found: Found, counts: &mut [u16]) -> Found {
+    let kind = get(state, e, KIND);
+    let object = get(state, e, OBJECT);
+    let serves = if kind == 2 { 1 } else { 7 };
+    let mut f = found;
+    if is_on(state, x, 2, object) & before(state, SAFE, x, e) {
+        f.waits = wrapping_add_u16(f.waits, 1);
+    }
+    if is_on(state, x, serves, object) & !before(state, SAFE, e, x) {
+        count_numbers(state, x, counts);
+        f.candidates = wrapping_add_u16(f.candidates, 1);
+    }
+    f
+}
+
+// What a wait or a flag wait e finds among n events.
+fn find(state: &[u16], n: u16, e: u16, counts: &mut [u16]) -> Found {
+    let mut found = Found {
+        waits: 0,
+        candidates: 0,
+    };
+    for x in 0..n {
+        found = meet(state, e, x, found, counts);
+    }
+    found
+}
+
+// The k-th least value that was counted for a task, or 0.
+fn kth(counts: &[u16], t: u16, k: u16) -> u16 {
+    let mut passed = 0;
     for value in 0..1025u16 {
-        passed = crate::memory::sum(passed, at(bins, value as usize) as u32);
-        if k as u32 <= passed {
+        passed = wrapping_add_u16(passed, at(counts, value as usize * 16 + t as usize));
+        if k <= passed {
             return value;
         }
     }
     0
 }
 
-fn serve_task(v: &mut [u16], e: u16, t: u16, found: &[u16], count: u16, k: u16) -> bool {
-    let mut bins = [0u16; 1025];
-    tally(v, t, found, count, &mut bins);
-    let value = kth(&bins, k);
-    lift(v, e, t, value)
-}
-
-fn serve_all(v: &mut [u16], e: u16, found: &[u16], count: u16, k: u16) -> bool {
+// Raises each number of e to the k-th least.
+fn raise_to_kth(state: &mut [u16], e: u16, counts: &[u16], k: u16) -> bool {
     let mut rose = false;
     for t in 0..16u16 {
-        rose = serve_task(v, e, t, found, count, k) || rose;
+        rose = lift(state, place(SAFE, e, t), kth(counts, t, k)) | rose;
     }
     rose
 }
 
-// What is left of k signals when so many are there from the start.
-fn lowered(k: u16, start: u16) -> u16 {
-    if start < k { k - start } else { 0 }
-}
-
-// How many signals a wait e needs, or posts a flag wait.
-fn needed(events: &[u16], levels: &[u16], n: u16, v: &[u16], e: u16) -> u16 {
-    let object = get(events, e, OBJECT);
-    if get(events, e, KIND) == 8 {
-        return at(levels, slot(POST_COUNTS, object));
+// How many posts a flag wait e needs, as its level says; or how many signals a wait e needs, for the waits
+// before it and for itself, but for those that are there from the start.
+fn needed(state: &[u16], e: u16, waits: u16) -> u16 {
+    let level = get(state, e, LEVEL);
+    if get(state, e, KIND) == 8 {
+        return level;
     }
-    lowered(
-        up(earlier_waits(events, n, v, e)),
-        at(levels, object as usize),
-    )
+    if waits < level {
+        0
+    } else {
+        wrapping_add_u16(waits - level, 1)
+    }
 }
 
 // Step 2 for a wait or a flag wait e.
-fn serve(events: &[u16], levels: &[u16], n: u16, v: &mut [u16], e: u16) -> bool {
-    let mut found = [0u16; 1024];
-    let k = needed(events, levels, n, v, e);
-    let count = candidates(events, n, v, e, &mut found);
-    if k == 0 || count < k {
+fn serve(state: &mut [u16], n: u16, e: u16) -> bool {
+    let mut counts = [0u16; 16400];
+    let found = find(state, n, e, &mut counts);
+    let k = needed(state, e, found.waits);
+    if (k == 0) | (found.candidates < k) {
         return false;
     }
-    serve_all(v, e, &found, count, k)
+    raise_to_kth(state, e, &counts, k)
 }
 
-fn raise_event(
-    events: &[u16],
-    links: &[u16],
-    levels: &[u16],
-    n: u16,
-    v: &mut [u16],
-    e: u16,
-) -> bool {
-    let followed = follow(v, links, e);
-    let kind = get(events, e, KIND);
-    if kind != 2 && kind != 8 {
+// Both steps for event e.
+fn raise_event(state: &mut [u16], n: u16, e: u16) -> bool {
+    let followed = follow(state, e);
+    let kind = get(state, e, KIND);
+    if (kind != 2) & (kind != 8) {
         return followed;
     }
-    serve(events, levels, n, v, e) || followed
+    serve(state, n, e) | followed
 }
 
-fn pass(events: &[u16], links: &[u16], levels: &[u16], n: u16, v: &mut [u16]) -> bool {
+fn pass(state: &mut [u16], n: u16) -> bool {
     let mut rose = false;
     for e in 0..n {
-        rose = raise_event(events, links, levels, n, v, e) || rose;
+        rose = raise_event(state, n, e) | rose;
     }
     rose
 }
 
-// The safe vectors.
-pub(crate) fn run(
-    events: &[u16],
-    links: &[u16],
-    levels: &[u16],
-    n: u16,
-    budget: u32,
-    v: &mut [u16],
-) -> Passes
-    ensures { λ r. ⌜ Passed budget (r .passes) (r .settled) ⌝ }
-{
-    start(events, n, v);
-    run_passes(events, links, levels, n, budget, v)
-}
-
-fn run_passes(
-    events: &[u16],
-    links: &[u16],
-    levels: &[u16],
-    n: u16,
-    budget: u32,
-    v: &mut [u16],
-) -> Passes
-    ensures { λ r. ⌜ Passed budget (r .passes) (r .settled) ⌝ }
-{
-    let mut passes: u32 = 0;
-    let mut left = budget;
-    while left > 0 {
-        left -= 1;
-        passes += 1;
-        if !pass(events, links, levels, n, v) {
+// The safe vectors of n events.
+fn run(state: &mut [u16], n: u16, budget: u32) -> Passes {
+    for made in 0..budget {
+        if !pass(state, n) {
             return Passes {
-                passes,
+                passes: wrapping_add_u32(made, 1),
                 settled: true,
             };
         }
     }
     Passes {
-        passes,
+        passes: budget,
         settled: false,
     }
+}
+
+// Work number i becomes that of its vector, a safe one or behind those a recorded one. Answers whether
+// there is one.
+fn put_number(state: &[u16], r: Reading, i: usize, work: &mut [u16]) -> bool {
+    let tasks = r.tasks as usize;
+    if tasks == 0 || 2 * (r.events as usize) <= i / tasks {
+        return false;
+    }
+    let row = (i / tasks % 2048) as u16;
+    let t = (i % tasks % 16) as u16;
+    let spot = if row < r.events {
+        place(SAFE, row, t)
+    } else {
+        place(RECORDED, row - r.events, t)
+    };
+    put(work, i, at(state, spot));
+    true
+}
+
+// The vectors become the work numbers.
+fn put_vectors(state: &[u16], r: Reading, work: &mut [u16]) {
+    for i in 0..work.len() {
+        if !put_number(state, r, i, work) {
+            return;
+        }
+    }
+}
+
+// Makes the passes, and leaves the vectors in the work numbers.
+pub(crate) fn fill(state: &mut [u16], r: Reading, budget: u32, work: &mut [u16]) -> Passes {
+    let passes = run(state, r.events, budget);
+    put_vectors(state, r, work);
+    passes
 }

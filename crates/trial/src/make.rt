@@ -1,22 +1,24 @@
 // Recordings from a fixed seed: events are drawn and kept where the rules allow them, so that forks,
 // joins, waits that compete for signals, and posts before and after a flag opens occur; then some are
 // damaged.
+ghost use Prim.Native.Nat.{_≤_};
 use crate::bytes::fill_bytes;
+use crate::bytes::first_bytes;
 use crate::bytes::number;
 use crate::bytes::put_byte;
 use crate::bytes::put_double;
 use crate::bytes::put_number;
 use crate::bytes::put_word;
-use crate::bytes::up_by;
-use crate::bytes::wide;
+use std::num::wrapping_add_u16;
+use std::num::wrapping_add_usize;
 
-// How large a recording may be: its preamble and events, and its counts; and its edition. The semaphores
-// are the trailer's field, which in edition 3 counts flags in its high byte.
+// How large a recording may be: its preamble and events, and its counts; and its edition.
 pub(crate) struct Shape {
     pub(crate) preamble: u16,
     pub(crate) events: u16,
     pub(crate) tasks: u16,
     pub(crate) semaphores: u16,
+    pub(crate) flags: u16,
     pub(crate) cells: u16,
     pub(crate) edition: u16,
 }
@@ -46,10 +48,7 @@ const LACK: u16 = 384;
 
 const POSTS: u16 = 448;
 
-// The seed of a group, another one for each edition.
-pub(crate) fn first_seed(group: u32, edition: u16) -> u32 {
-    group % 1000000 + edition as u32 * 100
-}
+// ---- drawing
 
 // A number below n; 0 where n is 0.
 pub(crate) fn draw(seed: &mut u32, n: u32) -> u32 {
@@ -63,7 +62,7 @@ pub(crate) fn draw(seed: &mut u32, n: u32) -> u32 {
 }
 
 pub(crate) fn draw_word(seed: &mut u32, n: u16) -> u16 {
-    (draw(seed, wide(n)) % 65536) as u16
+    (draw(seed, n as u32) % 65536) as u16
 }
 
 // A number from low to low + n.
@@ -71,6 +70,8 @@ pub(crate) fn draw_from(seed: &mut u32, low: u16, n: u16) -> u16 {
     let more = draw_word(seed, n) % 32768;
     low % 32768 + more
 }
+
+// ---- events
 
 fn at(life: &[u16], what: u16, i: u16) -> u16 {
     number(life, what as usize + i as usize)
@@ -80,22 +81,6 @@ fn put(life: &mut [u16], what: u16, i: u16, v: u16) {
     put_number(life, what as usize + i as usize, v);
 }
 
-fn semaphores_in(s: Shape) -> u16 {
-    if s.edition == 3 {
-        s.semaphores % 256
-    } else {
-        s.semaphores
-    }
-}
-
-fn flags_in(s: Shape) -> u16 {
-    if s.edition == 3 {
-        s.semaphores / 256
-    } else {
-        0
-    }
-}
-
 // The kinds of an edition.
 pub(crate) fn kinds_in(edition: u16) -> u16 {
     if edition == 3 { 8 } else { 6 }
@@ -103,44 +88,33 @@ pub(crate) fn kinds_in(edition: u16) -> u16 {
 
 fn names(kind: u16, s: Shape) -> u16 {
     match kind {
-        1 | 2 => semaphores_in(s),
+        1 | 2 => s.semaphores,
         3 | 4 => s.tasks,
         5 | 6 => s.cells,
-        _ => flags_in(s),
+        _ => s.flags,
     }
 }
 
-fn drawn(seed: &mut u32, s: Shape) -> Draft {
-    let task = draw_word(seed, s.tasks);
-    let kind = draw_from(seed, 1, kinds_in(s.edition));
-    let object = draw_word(seed, names(kind, s));
-    Draft { task, kind, object }
-}
-
-fn may_run(life: &[u16], task: u16) -> bool {
-    at(life, JOINED, task) == 0 && (at(life, LATE, task) == 0 || at(life, FORKED, task) != 0)
-}
-
-fn may_fork(life: &[u16], d: Draft) -> bool {
-    d.object != d.task && at(life, FORKED, d.object) == 0 && at(life, SEEN, d.object) == 0
-}
-
-fn may_join(life: &[u16], d: Draft) -> bool {
-    d.object != d.task && at(life, FORKED, d.object) != 0 && at(life, JOINED, d.object) == 0
-}
-
-fn allowed(life: &[u16], d: Draft, s: Shape) -> bool {
-    if !may_run(life, d.task) || names(d.kind, s) == 0 {
+fn allowed(life: &[u16], d: Draft) -> bool {
+    let kind = d.kind;
+    let task = d.task;
+    let object = d.object;
+    let forked = at(life, FORKED, object);
+    let late = (at(life, LATE, task) != 0) & (at(life, FORKED, task) == 0);
+    if late | (at(life, JOINED, task) != 0) {
         return false;
     }
-    let kind = d.kind;
     match kind {
-        2 => at(life, STOCK, d.object) != 0,
-        3 => may_fork(life, d),
-        4 => may_join(life, d),
-        8 => at(life, LACK, d.object) == 0,
+        2 => at(life, STOCK, object) != 0,
+        3 => (object != task) & (forked == 0) & (at(life, SEEN, object) == 0),
+        4 => (object != task) & (forked != 0) & (at(life, JOINED, object) == 0),
+        8 => at(life, LACK, object) == 0,
         _ => true,
     }
+}
+
+fn one_less(x: u16) -> u16 {
+    if 0 < x { x - 1 } else { x }
 }
 
 fn note(life: &mut [u16], d: Draft) {
@@ -149,7 +123,7 @@ fn note(life: &mut [u16], d: Draft) {
     let lack = at(life, LACK, d.object);
     let kind = d.kind;
     match kind {
-        1 => put(life, STOCK, d.object, one_more(stock)),
+        1 => put(life, STOCK, d.object, wrapping_add_u16(stock, 1)),
         2 => put(life, STOCK, d.object, one_less(stock)),
         3 => put(life, FORKED, d.object, 1),
         4 => put(life, JOINED, d.object, 1),
@@ -158,35 +132,32 @@ fn note(life: &mut [u16], d: Draft) {
     }
 }
 
-fn one_more(x: u16) -> u16 {
-    if x < 65535 { x + 1 } else { x }
-}
-
-fn one_less(x: u16) -> u16 {
-    if 0 < x { x - 1 } else { x }
-}
-
 // The place of record n after a preamble.
-pub(crate) fn place(preamble: u16, n: u16) -> u32 {
-    preamble as u32 + n as u32 * 4
+pub(crate) fn place(preamble: u16, n: u16) -> usize
+    ensures { λ r. ⌜ r ≤ 327675 ⌝ }
+{
+    preamble as usize + n as usize * 4
 }
 
-pub(crate) fn put_record(file: &mut [u8], i: u32, d: Draft) {
-    put_byte(file, i as usize, (d.task % 256) as u8);
-    put_byte(file, up_by(i, 1) as usize, (d.kind % 256) as u8);
-    put_word(file, up_by(i, 2), d.object);
+pub(crate) fn put_record(file: &mut [u8], i: usize, d: Draft) {
+    put_byte(file, i, (d.task % 256) as u8);
+    put_byte(file, wrapping_add_usize(i, 1), (d.kind % 256) as u8);
+    put_word(file, wrapping_add_usize(i, 2), d.object);
 }
 
 // Draws an event, puts it behind the n that are there where it is allowed, and answers how many
 // there are then.
 fn grow(seed: &mut u32, s: Shape, life: &mut [u16], file: &mut [u8], n: u16) -> u16 {
-    let d = drawn(seed, s);
-    if s.events <= n || !allowed(life, d, s) {
+    let task = draw_word(seed, s.tasks);
+    let kind = draw_from(seed, 1, kinds_in(s.edition));
+    let object = draw_word(seed, names(kind, s));
+    let d = Draft { task, kind, object };
+    if s.events <= n || names(kind, s) == 0 || !allowed(life, d) {
         return n;
     }
     note(life, d);
     put_record(file, place(s.preamble, n), d);
-    one_more(n)
+    wrapping_add_u16(n, 1)
 }
 
 // Two of five tasks but the first wait for a fork.
@@ -197,52 +168,19 @@ fn set_late(seed: &mut u32, life: &mut [u16], tasks: u16) {
     }
 }
 
-fn grow_all(seed: &mut u32, s: Shape, life: &mut [u16], file: &mut [u8], tries: u16) -> u16 {
+fn grow_all(seed: &mut u32, s: Shape, life: &mut [u16], file: &mut [u8]) -> u16 {
     let mut n = 0;
-    for i in 0..tries {
+    for i in 0..s.events as u32 * 3 {
         n = grow(seed, s, life, file, n);
     }
     n
 }
 
-// Marks the bytes before the first record, so that they differ from a record's.
-pub(crate) fn mark_preamble(file: &mut [u8], start: u32) {
-    let end = start as usize;
-    if end <= file.len() {
-        fill_bytes(&mut file[0..end], 90);
-    }
-}
-
-// The counts and edition of a recording with no preamble and no events yet.
-pub(crate) fn empty_shape(tasks: u16, semaphores: u16, cells: u16, edition: u16) -> Shape {
-    Shape {
-        preamble: 0,
-        events: 0,
-        tasks,
-        semaphores,
-        cells,
-        edition,
-    }
-}
-
-// The trailer at a place of the file.
-pub(crate) fn put_trailer(file: &mut [u8], i: u32, start: u32, n: u32, s: Shape) {
-    put_double(file, i, start);
-    put_double(file, up_by(i, 4), n);
-    put_word(file, up_by(i, 8), s.tasks);
-    put_word(file, up_by(i, 10), s.semaphores);
-    put_word(file, up_by(i, 12), s.cells);
-    put_word(file, up_by(i, 14), s.edition);
-}
+// ---- levels
 
 // How many start bytes a recording has.
-fn starts_in(s: Shape) -> u16 {
-    if s.edition == 1 { 0 } else { semaphores_in(s) }
-}
-
-// How many start bytes and post bytes a recording has.
-pub(crate) fn levels_in(s: Shape) -> u16 {
-    starts_in(s) % 256 + flags_in(s) % 256
+pub(crate) fn starts_in(s: Shape) -> u16 {
+    if s.edition == 1 { 0 } else { s.semaphores }
 }
 
 // 0, 1, 4, 255, or a small number.
@@ -266,88 +204,113 @@ fn draw_post(seed: &mut u32) -> u16 {
     }
 }
 
-fn draw_level(seed: &mut u32, what: u16) -> u16 {
-    if what == STARTS {
-        draw_start(seed)
-    } else {
-        draw_post(seed)
-    }
-}
-
 // Draws n start counts or post counts, and what is there of them before the first event.
 fn set_levels(seed: &mut u32, life: &mut [u16], what: u16, first: u16, n: u16) {
     for i in 0..n {
-        let level = draw_level(seed, what);
+        let level = if what == STARTS {
+            draw_start(seed)
+        } else {
+            draw_post(seed)
+        };
         put(life, what, i, level);
         put(life, first, i, level);
     }
 }
 
 // Puts n start counts or post counts at a place of the file, and answers where they end.
-fn put_levels(file: &mut [u8], from: u32, life: &[u16], what: u16, n: u16) -> u32 {
+fn put_levels(file: &mut [u8], from: usize, life: &[u16], what: u16, n: u16) -> usize {
     for i in 0..n {
-        let level = at(life, what, i);
-        put_byte(file, up_by(from, wide(i)) as usize, (level % 256) as u8);
+        put_byte(
+            file,
+            wrapping_add_usize(from, i as usize),
+            (at(life, what, i) % 256) as u8,
+        );
     }
-    up_by(from, wide(n))
+    wrapping_add_usize(from, n as usize)
+}
+
+// ---- files
+
+// Marks the bytes before the first record, so that they differ from a record's.
+pub(crate) fn mark_preamble(file: &mut [u8], start: usize) {
+    if start <= file.len() {
+        fill_bytes(first_bytes(file, start), 90);
+    }
+}
+
+// The trailer's field for semaphores and flags.
+pub(crate) fn field_of(s: Shape) -> u16 {
+    if s.flags == 0 {
+        return s.semaphores;
+    }
+    s.flags % 256 * 256 + s.semaphores % 256
+}
+
+// The trailer at a place of the file, and where it ends.
+pub(crate) fn put_trailer(file: &mut [u8], i: usize, start: u32, n: u32, s: Shape) -> usize {
+    put_double(file, i, start);
+    put_double(file, wrapping_add_usize(i, 4), n);
+    put_word(file, wrapping_add_usize(i, 8), s.tasks);
+    put_word(file, wrapping_add_usize(i, 10), field_of(s));
+    put_word(file, wrapping_add_usize(i, 12), s.cells);
+    put_word(file, wrapping_add_usize(i, 14), s.edition);
+    wrapping_add_usize(i, 16)
 }
 
 // A recording that reading accepts, of at most the shape's events; its length.
-pub(crate) fn make(seed: &mut u32, s: Shape, file: &mut [u8]) -> u32 {
+pub(crate) fn make(seed: &mut u32, s: Shape, file: &mut [u8]) -> usize {
     let mut life = [0u16; 512];
     let starts = starts_in(s);
-    let flags = flags_in(s);
     set_late(seed, &mut life, s.tasks);
     set_levels(seed, &mut life, STARTS, STOCK, starts);
-    set_levels(seed, &mut life, POSTS, LACK, flags);
-    let tries = if s.events < 20000 {
-        s.events * 3
-    } else {
-        60000
-    };
-    mark_preamble(file, wide(s.preamble));
-    let n = grow_all(seed, s, &mut life, file, tries);
+    set_levels(seed, &mut life, POSTS, LACK, s.flags);
+    mark_preamble(file, s.preamble as usize);
+    let n = grow_all(seed, s, &mut life, file);
     let posts = put_levels(file, place(s.preamble, n), &life, STARTS, starts);
-    let end = put_levels(file, posts, &life, POSTS, flags);
-    put_trailer(file, end, wide(s.preamble), wide(n), s);
-    up_by(end, 16)
+    let end = put_levels(file, posts, &life, POSTS, s.flags);
+    put_trailer(file, end, s.preamble as u32, n as u32, s)
 }
+
+// ---- damage
 
 // Another byte so many from the end of the file, where there is one.
-pub(crate) fn damage_byte(file: &mut [u8], length: u32, back: u32, value: u8) {
-    if back < length {
-        put_byte(file, (length - 1 - back) as usize, value);
+pub(crate) fn damage_byte(file: &mut [u8], length: usize, back: u32, value: u8) {
+    if (back as usize) < length {
+        put_byte(file, length - 1 - back as usize, value);
     }
 }
 
-// Another byte somewhere in the file, in its trailer or just before that, another record, or another
-// length; the length.
-pub(crate) fn damage(seed: &mut u32, s: Shape, file: &mut [u8], length: u32) -> u32 {
+// Where that is asked, another byte somewhere in the file, in its trailer or just before that, another
+// record, or another length; the length.
+pub(crate) fn damage(
+    seed: &mut u32,
+    s: Shape,
+    file: &mut [u8],
+    length: usize,
+    damaged: bool,
+) -> usize {
+    if !damaged {
+        return length;
+    }
+    let size = (length % 65536) as u32;
     let what = draw(seed, 5);
     let value = (draw(seed, 256) % 256) as u8;
-    if what == 0 {
-        let back = draw(seed, length);
-        damage_byte(file, length, back, value);
-        return length;
+    match what {
+        0 => damage_byte(file, length, draw(seed, size), value),
+        1 => damage_byte(file, length, draw(seed, 16), value),
+        2 => damage_byte(file, length, draw(seed, 8) % 8 + 16, value % 6),
+        3 => damage_record(seed, s, file),
+        _ => return draw(seed, size + 8) as usize,
     }
-    if what == 1 {
-        let back = draw(seed, 16);
-        damage_byte(file, length, back, value);
-        return length;
-    }
-    if what == 2 {
-        let back = up_by(16, draw(seed, 8));
-        damage_byte(file, length, back, value % 6);
-        return length;
-    }
-    if what == 3 {
-        let d = Draft {
-            task: draw_word(seed, s.tasks),
-            kind: draw_word(seed, kinds_in(s.edition) % 16 + 3),
-            object: draw_word(seed, 6),
-        };
-        put_record(file, place(s.preamble, draw_word(seed, s.events)), d);
-        return length;
-    }
-    draw(seed, up_by(length, 8))
+    length
+}
+
+// Another record, of a kind that may be none.
+fn damage_record(seed: &mut u32, s: Shape, file: &mut [u8]) {
+    let d = Draft {
+        task: draw_word(seed, s.tasks),
+        kind: draw_word(seed, kinds_in(s.edition) % 16 + 3),
+        object: draw_word(seed, 6),
+    };
+    put_record(file, place(s.preamble, draw_word(seed, s.events)), d);
 }

@@ -1,34 +1,36 @@
-// An order that shows a pair reversed: the library and the second analyser on two events of a file, with
-// many sizes of lent memory, and what is checked of each recording that is written.
-use crate::both::same_memory;
-use crate::bytes::all_byte_marks;
-use crate::bytes::fill;
-use crate::bytes::fill_bytes;
+// Pairs shown reversed: what is looked at in each recording that is written, beside what the second
+// analyser says.
+use crate::bytes::byte;
 use crate::bytes::number;
+use crate::bytes::part_of;
+use crate::bytes::put_number;
 use crate::bytes::same_bytes;
-use crate::bytes::up;
-use crate::compare;
-use crate::compare::MARK;
-use crate::compare::one_less;
-use crate::compare::one_more;
-use crate::compare::some_more;
-use crate::looks::part_of;
-use crate::ordered::name_events;
-use crate::tries::count;
-use crate::tries::say;
-use crate::tries::say_in;
-use crate::writing;
-use model::Analysis;
-use model::Answer;
-use model::Written;
-use second::Sent;
+use crate::call;
+use crate::call::ASK;
+use crate::call::Call;
+use crate::call::REVERSED;
+use crate::call::WAYS;
+use crate::call::call_of;
+use crate::make;
+use crate::reading;
+use crate::tally::Tally;
+use crate::tally::count;
+use crate::tries::try_way;
+use crate::tries::try_ways;
+use second::Told;
+use std::num::wrapping_add_u32;
 
-// ---- a recording that was written
+// ---- names
 
-// The names of a file's events.
-fn names_of(file: &[u8], names: &mut [u16]) {
+// The names of 1,024 events, task and position in one number each.
+pub(crate) fn name_events(records: &[u8], names: &mut [u16]) {
     let mut counts = [0u16; 256];
-    name_events(recording::records(file), &mut counts, names);
+    for e in 0..1024u16 {
+        let task = byte(records, make::place(0, e));
+        let position = number(&counts, task as usize) % 1024 + 1;
+        put_number(&mut counts, task as usize, position);
+        put_number(names, e as usize, task as u16 % 16 * 2048 + position);
+    }
 }
 
 // The first of n events that has a name; n where there is none.
@@ -41,10 +43,11 @@ fn event_of(names: &[u16], n: u16, name: u16) -> u16 {
     n
 }
 
+// Record e of one part is record i of the other.
 pub(crate) fn same_record(a: &[u8], e: u16, b: &[u8], i: u16) -> bool {
-    let one = e as usize * 4;
-    let two = i as usize * 4;
-    same_bytes(part_of(a, one, one + 4), part_of(b, two, two + 4), 4)
+    let one = make::place(0, e);
+    let two = make::place(0, i);
+    same_bytes(part_of(a, one, one + 4), part_of(b, two, two + 4))
 }
 
 // Each of n records stands in the other file too, at its position in its task.
@@ -58,300 +61,84 @@ fn is_rearranged(a: &[u8], names: &[u16], b: &[u8], other_names: &[u16], n: u16)
     true
 }
 
-// Reading accepts the recording, with start 0 and the events, counts, edition, start bytes and post bytes
-// of the file.
-fn is_read(file: &[u8], shown: &[u8]) -> bool {
-    let r = second::read(file);
-    let s = second::read(shown);
-    let starts = recording::starts(file);
-    let posts = recording::posts(file);
-    compare::reading_agrees(shown)
-        && s.refusal == 0
-        && s.start == 0
-        && s.events == r.events
-        && writing::same_counts(s, writing::counts_of(r))
-        && compare::same_part(recording::starts(shown), starts, starts.len())
-        && compare::same_part(recording::posts(shown), posts, posts.len())
-}
-
-fn is_analysed(file: &[u8]) -> bool {
-    let mut work = [0u16; 32768];
-    let mut list = [0u16; 24576];
-    match analysis::analyse(file, 1, &mut work, &mut list) {
-        Analysis::Done {
-            passes: _,
-            settled: _,
-            pairs: _,
-        } => true,
-        Analysis::Refused(_) => false,
-    }
-}
+// ---- a recording that was written
 
 // The recording has the file's records in another order, each task's own kept, and event x of the file
 // earlier than y.
-fn is_reversed(file: &[u8], shown: &[u8], x: usize, y: usize) -> bool {
+fn is_reversed(records: &[u8], shown: &[u8], n: u16, x: usize, y: usize) -> bool {
     let mut names = [0u16; 1024];
     let mut other_names = [0u16; 1024];
-    names_of(file, &mut names);
-    names_of(shown, &mut other_names);
-    let n = second::read(file).events;
+    name_events(records, &mut names);
+    name_events(shown, &mut other_names);
     let first = event_of(&other_names, n, number(&names, x));
     let then = event_of(&other_names, n, number(&names, y));
-    let records = recording::records(file);
-    first < then && is_rearranged(records, &names, recording::records(shown), &other_names, n)
+    first < then && is_rearranged(records, &names, shown, &other_names, n)
 }
 
+// Reading accepts the recording, with start 0 and the counts, edition, start bytes and post bytes of the
+// file; analysing does; and it shows event x earlier than y.
 fn shows(file: &[u8], shown: &[u8], x: usize, y: usize) -> bool {
-    is_read(file, shown) && is_analysed(shown) && is_reversed(file, shown, x, y)
-}
-
-// ---- one call
-
-// The library's refusal with enough memory lent, or 0, and the recording.
-pub(crate) fn refusal_of(file: &[u8], x: usize, y: usize, shown: &mut [u8]) -> u16 {
-    let mut work = [0u16; 32768];
-    match reversed::write_reversed(file, x, y, &mut work, shown) {
-        Written::Length(_) => 0,
-        Written::Refused(r) => r.number() as u16,
-    }
-}
-
-// The library's question says that a pair is sure.
-fn is_sure(file: &[u8], x: usize, y: usize) -> bool {
-    let mut work = [0u16; 32768];
-    match analysis::ask(file, x, y, 0, &mut work) {
-        Answer::Related(relation) => relation.number() == 4,
-        Answer::Refused(_) => false,
-    }
-}
-
-// Whichever event is chosen, the library writes a recording or refuses alike, and writes exactly of a
-// sure pair.
-fn is_alike(file: &[u8], x: usize, y: usize) -> bool {
-    let mut shown = [0u8; 4200];
-    let there = refusal_of(file, x, y, &mut shown);
-    let back = refusal_of(file, y, x, &mut shown);
-    there == back && (there == 0) == is_sure(file, x, y)
-}
-
-// Whether both agree in everything, and what they answered.
-struct Outcome {
-    agrees: bool,
-    refusal: u16,
-    length: usize,
-}
-
-// As many work numbers as a call that answers o fills.
-fn filled(o: Sent, needed: usize) -> usize {
-    if o.refusal == 0 || o.refusal == 12 || o.refusal == 15 {
-        needed
-    } else {
-        0
-    }
-}
-
-// The library's call, the lent memory filled with a mark first.
-fn ours(file: &[u8], x: usize, y: usize, work: &mut [u16], out: &mut [u8]) -> Written {
-    fill(work, MARK);
-    fill_bytes(out, writing::MARK);
-    reversed::write_reversed(file, x, y, work, out)
-}
-
-// The second analyser's.
-fn theirs(file: &[u8], x: usize, y: usize, work: &mut [u16], out: &mut [u8]) -> Sent {
-    fill(work, MARK);
-    fill_bytes(out, writing::MARK);
-    second::write_reversed(file, x, y, work, out)
-}
-
-// Both left the same bytes, and marks from a place on.
-fn same_output(out: &[u8], other_out: &[u8], used: usize) -> bool {
-    same_bytes(out, other_out, out.len()) && all_byte_marks(out, used, writing::MARK)
-}
-
-// With as much memory as is lent here, twice.
-fn lent_call(
-    file: &[u8],
-    x: usize,
-    y: usize,
-    work: &mut [u16],
-    out: &mut [u8],
-    other_work: &mut [u16],
-    other_out: &mut [u8],
-) -> Outcome {
-    let needed = compare::work_needed(file);
-    let o = theirs(file, x, y, other_work, other_out);
-    let agrees = writing::same_written(ours(file, x, y, work, out), o)
-        && same_memory(work, other_work, filled(o, needed))
-        && same_output(out, other_out, o.length);
-    Outcome {
-        agrees,
-        refusal: o.refusal,
-        length: o.length,
-    }
-}
-
-// With these lengths of the work memory and of the output, in which the recording is left.
-fn call(file: &[u8], x: usize, y: usize, room: usize, size: usize, shown: &mut [u8]) -> Outcome {
-    let none = Outcome {
-        agrees: false,
-        refusal: 0,
-        length: 0,
-    };
-    let mut work = [0u16; 32800];
-    let mut other_work = [0u16; 32800];
-    let mut other_out = [0u8; 4200];
-    if 32800 < room {
-        return none;
-    }
-    if 4200 < size {
-        return none;
-    }
-    if shown.len() < size {
-        return none;
-    }
-    lent_call(
-        file,
-        x,
-        y,
-        &mut work[0..room],
-        &mut shown[0..size],
-        &mut other_work[0..room],
-        &mut other_out[0..size],
-    )
-}
-
-// ---- sizes of lent memory: those that are needed, and other ones: more, one less for the work, one less
-// for the output, one more for both, none, no output, and one less for both
-
-pub(crate) const SIZES: u32 = 8;
-
-fn room_lent(needed: usize, which: u32) -> usize {
-    match which {
-        1 => some_more(needed),
-        2 => one_less(needed),
-        4 => one_more(needed),
-        5 => 0,
-        7 => one_less(needed),
-        _ => needed,
-    }
-}
-
-fn size_lent(needed: usize, which: u32) -> usize {
-    match which {
-        1 => some_more(needed),
-        3 => one_less(needed),
-        4 => one_more(needed),
-        5 => 0,
-        6 => 0,
-        7 => one_less(needed),
-        _ => needed,
-    }
-}
-
-// A call with one of the sizes.
-fn sized_call(file: &[u8], x: usize, y: usize, which: u32, shown: &mut [u8]) -> Outcome {
-    let levels = recording::starts(file).len() + recording::posts(file).len();
-    let size = writing::room_needed(recording::records(file).len(), levels);
-    let room = compare::work_needed(file);
-    call(
-        file,
-        x,
-        y,
-        room_lent(room, which),
-        size_lent(size, which),
+    let mut list = [0u16; 24576];
+    let mut none = [0u8; 1];
+    let r = second::read(file);
+    let records = recording::records(shown);
+    let c = reading::counts_of(r);
+    reading::reads_as(
         shown,
+        records,
+        recording::starts(file),
+        recording::posts(file),
+        c,
     )
+        && second::read(shown).events == r.events
+        && call::answer(call::analysing(1), shown, b"", &mut list, &mut none).refusal == 0
+        && is_reversed(recording::records(file), records, r.events, x, y)
+}
+
+// What is looked at after a call that answered this and wrote this recording.
+pub(crate) fn try_shown(t: Tally, c: Call, file: &[u8], o: Told, shown: &[u8]) -> Tally {
+    let mut next = t;
+    if o.refusal == 0 {
+        next = count(t, shows(file, shown, c.a, c.b), file);
+        next.written = wrapping_add_u32(t.written, 1);
+    }
+    if o.refusal == 15 {
+        next.unsure = wrapping_add_u32(t.unsure, 1);
+    }
+    next
 }
 
 // ---- tries
 
-// How many comparisons, and how many calls wrote a recording and how many were refused by 15.
-pub(crate) struct Tally {
-    pub(crate) total: u32,
-    pub(crate) written: u32,
-    pub(crate) unsure: u32,
+// What the library answers, with enough memory lent; the recording is left in shown.
+pub(crate) fn refusal_of(c: Call, file: &[u8], shown: &mut [u8]) -> u16 {
+    let mut list = [0u16; 1];
+    call::answer(c, file, b"", &mut list, shown).refusal
 }
 
-pub(crate) fn no_tries() -> Tally {
-    Tally {
-        total: 0,
-        written: 0,
-        unsure: 0,
-    }
+// The library's question says that a pair is sure.
+fn is_sure(file: &[u8], x: usize, y: usize) -> bool {
+    let mut list = [0u16; 1];
+    let mut none = [0u8; 1];
+    call::answer(call_of(ASK, x, y, 0), file, b"", &mut list, &mut none).relation == 4
 }
 
-pub(crate) fn say_tally(name: &[u8], edition: u16, t: Tally) {
-    say_in(name, edition, t.total);
-    say(b"  recordings written", t.written);
-    say(b"  refused by 15", t.unsure);
-}
-
-// One more comparison.
-pub(crate) fn count_in(t: Tally, agrees: bool, file: &[u8]) -> Tally {
-    Tally {
-        total: count(t.total, agrees, file),
-        written: t.written,
-        unsure: t.unsure,
-    }
-}
-
-// A call that answered this: the recording, where it wrote one, shows event x earlier than y.
-fn count_call(t: Tally, file: &[u8], x: usize, y: usize, o: Outcome, shown: &[u8]) -> Tally {
-    let total = count(t.total, o.agrees, file);
-    if o.refusal == 0 {
-        return Tally {
-            total: count(total, shows(file, part_of(shown, 0, o.length), x, y), file),
-            written: up(t.written),
-            unsure: t.unsure,
-        };
-    }
-    Tally {
-        total,
-        written: t.written,
-        unsure: if o.refusal == 15 {
-            up(t.unsure)
-        } else {
-            t.unsure
-        },
-    }
-}
-
-// One call with one of the sizes.
-pub(crate) fn try_size(t: Tally, file: &[u8], x: usize, y: usize, which: u32) -> Tally {
-    let mut shown = [0u8; 4200];
-    let o = sized_call(file, x, y, which, &mut shown);
-    count_call(t, file, x, y, o, &shown)
-}
-
-// One call with one of the sizes is refused with this number; 0 for none.
-pub(crate) fn try_refused(
-    t: Tally,
-    file: &[u8],
-    x: usize,
-    y: usize,
-    which: u32,
-    number: u16,
-) -> Tally {
-    let mut shown = [0u8; 4200];
-    let o = sized_call(file, x, y, which, &mut shown);
-    let refused = count_in(t, o.refusal == number, file);
-    count_call(refused, file, x, y, o, &shown)
-}
-
-// Both events as the chosen one, with the sizes that are needed and with more.
+// Both events as the chosen one, with the sizes that are needed and with more. Whichever event is chosen, the
+// library writes a recording or refuses alike, and writes exactly of a sure pair.
 pub(crate) fn try_pair(t: Tally, file: &[u8], x: usize, y: usize) -> Tally {
-    let there = try_size(t, file, x, y, 0);
-    let back = try_size(there, file, y, x, 1);
-    count_in(back, is_alike(file, x, y), file)
+    let mut shown = [0u8; 4200];
+    let c = call_of(REVERSED, x, y, 0);
+    let d = call_of(REVERSED, y, x, 0);
+    let need = call::needed(c, file, b"");
+    let there = try_way(t, c, file, b"", need, 0);
+    let back = try_way(there, d, file, b"", need, 1);
+    let refusal = refusal_of(c, file, &mut shown);
+    let alike = refusal == refusal_of(d, file, &mut shown) && (refusal == 0) == is_sure(file, x, y);
+    count(back, alike, file)
 }
 
 // Both events as the chosen one, with each of the sizes.
-pub(crate) fn try_sizes(start: Tally, file: &[u8], x: usize, y: usize) -> Tally {
-    let mut t = start;
-    for which in 0..SIZES {
-        t = try_size(t, file, x, y, which);
-        t = try_size(t, file, y, x, which);
-    }
-    t
+pub(crate) fn try_sizes(t: Tally, file: &[u8], x: usize, y: usize) -> Tally {
+    let there = try_ways(t, call_of(REVERSED, x, y, 0), file, b"", WAYS);
+    try_ways(there, call_of(REVERSED, y, x, 0), file, b"", WAYS)
 }

@@ -1,437 +1,472 @@
-// Small recordings in the notation of document 01: each event as its task, a letter and its object; O is
-// a post and G a flag wait.
+// Rows on single recordings: worked ones with answers written by hand, calls at the edge of a refusal, and files at
+// the ends of what a trailer may say.
 use crate::bytes::byte;
+use crate::bytes::fill_bytes;
+use crate::bytes::number;
+use crate::bytes::part_of;
 use crate::bytes::put_byte;
 use crate::bytes::put_bytes;
-use crate::bytes::up_by;
-use crate::compare;
-use crate::compare::one_more;
-use crate::lines;
-use crate::looks::part_of;
+use crate::call;
+use crate::call::ANALYSE;
+use crate::call::Call;
+use crate::call::Lent;
+use crate::call::REVERSED;
+use crate::call::TOGETHER;
+use crate::call::call_of;
+use crate::call::sized;
 use crate::make;
 use crate::make::Shape;
-use crate::rows::number;
-use crate::rows::put_words;
-use crate::rows::rest;
+use crate::ordered::try_one;
+use crate::printed;
+use crate::rows::digit;
+use crate::rows::find;
+use crate::rows::put_events;
+use crate::rows::put_levels;
+use crate::rows::put_recording;
+use crate::rows::section;
+use crate::rows::shape_of;
 use crate::rows::short;
+use crate::rows::value;
+use crate::rows::wide;
 use crate::rows::word;
-use crate::tries::count;
+use crate::shown::refusal_of;
+use crate::shown::same_record;
+use crate::shown::try_pair;
+use crate::shown::try_sizes;
+use crate::tally::Tally;
+use crate::tally::count;
+use crate::tally::count_both;
+use crate::tries::ENDLESS;
 use crate::tries::refused_as;
-use crate::tries::say;
-use crate::tries::try_printing;
+use crate::tries::try_analysing;
+use crate::tries::try_lent;
+use crate::tries::try_outcome;
 use crate::tries::try_questions;
 use crate::tries::try_reading;
-use crate::tries::try_sizes;
-use crate::tries::try_writing;
+use crate::tries::try_ways;
+use crate::writing::output;
+use crate::writing::try_writing;
+use model::Counts;
+use second::Told;
+use std::num::wrapping_add_usize;
 
-fn kind_of(letter: u8) -> u8 {
-    match letter {
-        b'S' => 1,
-        b'P' => 2,
-        b'F' => 3,
-        b'J' => 4,
-        b'R' => 5,
-        b'W' => 6,
-        b'O' => 7,
-        b'G' => 8,
-        b'y' => 9,
-        b'z' => 255,
-        _ => 0,
-    }
-}
+// ---- answers
 
-pub(crate) fn digit(text: &[u8], i: usize) -> u8 {
-    let c = byte(text, i);
-    if 48 <= c { c - 48 } else { 0 }
-}
-
-fn put_event(file: &mut [u8], text: &[u8], e: u16) {
-    let i = e as usize * 4;
-    put_byte(file, i, digit(text, i));
-    put_byte(file, i + 1, kind_of(byte(text, i + 1)));
-    put_byte(file, i + 2, digit(text, i + 2));
-}
-
-fn put_events(file: &mut [u8], text: &[u8], n: u16) {
-    for e in 0..n {
-        put_event(file, text, e);
-    }
-}
-
-// How many events a text of four bytes each has, the last one without its space.
-fn events_in(text: &[u8]) -> u16 {
-    let n = text.len() / 4 % 64;
-    (n + 1) as u16
-}
-
-fn try_budgets(start: u32, file: &[u8], room: usize) -> u32 {
-    let mut total = start;
-    for budget in 0..5u32 {
-        total = try_sizes(total, file, budget);
-        total = try_questions(total, file, budget, room);
-    }
-    total
-}
-
-// All that is compared of a small file.
-fn try_whole(start: u32, file: &[u8]) -> u32 {
-    let room = compare::work_needed(file);
-    let passes = try_budgets(start, file, room);
-    let most = try_sizes(passes, file, 4294967295);
-    let asked = try_questions(most, file, 4294967295, compare::one_less(room));
-    let written = try_writing(asked, file);
-    try_printing(try_reading(written, file), file)
-}
-
-// Puts the events of a text, and answers where they end.
-pub(crate) fn put_text(file: &mut [u8], text: &[u8]) -> u32 {
-    let n = events_in(text);
-    put_events(file, text, n);
-    make::place(0, n)
-}
-
-// Puts a recording of this shape with these level bytes; its length.
-pub(crate) fn put_recording(file: &mut [u8], s: Shape, levels: &[u8], text: &[u8]) -> u32 {
-    let at = put_text(file, text);
-    let end = put_bytes(file, at, levels);
-    make::put_trailer(file, end, 0, at / 4, s);
-    up_by(end, 16)
-}
-
-// A recording of this shape, and what is printed of it.
-fn try_printed(start: u32, s: Shape, levels: &[u8], text: &[u8], printed: &[u8]) -> u32 {
-    let mut bytes = [0u8; 400];
-    let length = put_recording(&mut bytes, s, levels, text);
-    if 400 < length {
-        return start;
-    }
-    let file = &bytes[0..length as usize];
-    count(start, lines::prints(file, printed), file)
-}
-
-// ---- rows: tasks, semaphores, flags, cells, edition, and a number for each level byte; then either `refused`
-// with a number, 0 for none, and a record, or `lists` with passes, 0 for no budget, and entries, a digit
-// for each number; then the events
-
-fn shape_of(row: &[u8]) -> Shape {
-    let field = short(row, 1) % 256 + short(row, 2) % 256 * 256;
-    make::empty_shape(short(row, 0), field, short(row, 3), short(row, 4))
-}
-
-// Whether the file answers what the row says from word k on.
-fn answers(row: &[u8], k: u16, file: &[u8]) -> bool {
-    let first = k % 1024 + 1;
-    if byte(word(row, k), 0) == b'l' {
-        let passes = number(row, first);
-        let budget = if passes == 0 { 0 } else { 4294967295 };
-        return compare::lists(file, budget, passes, word(row, first + 1));
-    }
-    refused_as(file, short(row, first), short(row, first + 1))
-}
-
-fn try_row(start: u32, row: &[u8]) -> u32 {
-    let mut levels = [0u8; 8];
-    let mut bytes = [0u8; 400];
-    let s = shape_of(row);
-    let n = make::levels_in(s) % 1024;
-    put_words(row, 5, n, &mut levels);
-    let length = put_recording(
-        &mut bytes,
-        s,
-        part_of(&levels, 0, n as usize),
-        rest(row, n + 8),
-    );
-    let file = part_of(&bytes, 0, length as usize);
-    try_whole(count(start, answers(row, n + 5, file), file), file)
-}
-
-fn try_rows(name: &[u8], table: &[u8]) {
-    let mut total = 0;
-    let mut from = 0;
-    for i in 0..table.len() {
-        if byte(table, i) == b';' {
-            total = try_row(total, part_of(table, from, i));
-            from = one_more(i);
+// The numbers of a list are the digits of a text.
+fn same_digits(list: &[u16], text: &[u8]) -> bool {
+    for i in 0..text.len() {
+        if number(list, i) != digit(text, i) as u16 {
+            return false;
         }
     }
-    say(name, total);
+    true
 }
 
-// A to J of document 01.
-pub(crate) fn try_worked() {
-    try_rows(
-        b"worked",
-        b"A: 2 1 0 1 1 refused 0 0 0W0 0S0 1P0 1R0;\
-        B: 3 1 0 1 1 refused 0 0 0W0 0S0 1S0 2P0 2R0;\
-        C: 3 1 0 1 1 refused 0 0 1S0 0W0 0S0 2P0 2R0;\
-        D: 3 1 0 1 1 refused 0 0 0W0 0S0 1S0 2P0 2P0 2R0;\
-        E: 4 1 0 1 1 refused 0 0 0W0 0S0 1S0 2P0 3P0 3R0;\
-        F: 2 1 0 1 1 refused 0 0 1W0 1S0 0P0 0S0 0R0;\
-        G: 2 0 0 1 1 refused 0 0 0W0 0F1 1W0 0R0 0J1 0W0;\
-        H: 2 0 0 0 1 refused 0 0 0F1 0J1;\
-        I: 2 0 0 0 1 refused 7 0 0J1;\
-        J: 1 1 0 0 1 refused 8 0 0P0;",
-    );
+// `refused NUMBER RECORD TASK POSITION`: what a call answers, 0 for each that is left out.
+fn is_refused(o: Told, s: &[u8]) -> bool {
+    (o.refusal == short(s, 1))
+        & (o.record == short(s, 2))
+        & (o.task == short(s, 3))
+        & (o.position == short(s, 4))
 }
 
-// Kinds of each edition, and names below their counts.
-pub(crate) fn try_names() {
-    try_rows(
-        b"kinds and names",
-        b"kind 0: 1 1 0 1 1 refused 5 0 0x0;\
-        kind 7 in edition 1: 1 1 0 1 1 refused 5 0 0O0;\
-        kind 7 in record 1: 1 1 0 1 1 refused 5 1 0W0 0O0;\
-        kind 255, task and object beyond: 1 1 0 1 1 refused 5 0 9z9;\
-        task 2 of 2: 2 1 0 1 1 refused 6 0 2W0;\
-        task 1 of 2: 2 1 0 1 1 refused 0 0 1W0;\
-        semaphore 2 of 2: 1 2 0 1 1 refused 6 0 0S2;\
-        semaphore 1 of 2: 1 2 0 1 1 refused 0 0 0S1;\
-        no semaphore: 1 0 0 1 1 refused 6 0 0S0;\
-        wait on semaphore 2 of 2: 1 2 0 1 1 refused 6 0 0P2;\
-        fork of task 2 of 2: 2 0 0 0 1 refused 6 0 0F2;\
-        fork of task 1 of 2: 2 0 0 0 1 refused 0 0 0F1;\
-        join of task 2 of 2: 2 0 0 0 1 refused 6 0 0J2;\
-        cell 2 of 2: 1 0 0 2 1 refused 6 0 0R2;\
-        cell 1 of 2: 1 0 0 2 1 refused 0 0 0R1;\
-        write of cell 2 of 2: 1 0 0 2 1 refused 6 0 0W2;\
-        no cell: 1 1 0 0 1 refused 6 0 0W0;\
-        kind 8 in edition 1: 1 1 0 1 1 refused 5 0 0G0;\
-        kind 7 in edition 2: 1 1 0 1 2 1 refused 5 0 0O0;\
-        kind 8 in edition 2: 1 1 0 1 2 1 refused 5 0 0G0;\
-        kind 9 in edition 3: 1 1 1 1 3 1 1 refused 5 0 0y0;\
-        kind 9 in record 1: 1 1 1 1 3 1 1 refused 5 1 0O0 0y0;\
-        post on flag 2 of 2: 1 0 2 1 3 1 1 refused 6 0 0O2;\
-        post on flag 1 of 2: 1 0 2 1 3 1 1 refused 0 0 0O1;\
-        flag wait on flag 1 of 1: 1 2 1 1 3 0 0 1 refused 6 1 0O0 0G1;\
-        no flag: 1 2 0 1 3 0 0 refused 6 0 0O0;\
-        no semaphore, one flag: 1 0 1 1 3 1 refused 6 0 0S0;\
-        semaphore 1 of 1, two flags: 1 1 2 1 3 0 1 1 refused 6 0 0S1;",
-    );
+// `lists PASSES ENTRIES`, a digit for each number and '-' for none: the library makes so many passes, settles unless it makes
+// none, which is then its whole budget, and lists these entries. Or `refused ..`.
+fn answers(file: &[u8], s: &[u8]) -> bool {
+    let mut list = [0u16; 64];
+    let mut out = [0u8; 1];
+    let passes = wide(s, 1);
+    let w = word(s, 2);
+    let entries = if byte(w, 0) == b'-' {
+        part_of(w, 0, 0)
+    } else {
+        w
+    };
+    let budget = if passes == 0 { 0 } else { ENDLESS };
+    let o = call::answer(call::analysing(budget), file, b"", &mut list, &mut out);
+    if byte(word(s, 0), 0) == b'r' {
+        return refused_as(file, short(s, 1), short(s, 2));
+    }
+    o.refusal == 0
+        && o.passes == passes
+        && o.settled == (passes != 0)
+        && o.pairs as usize == entries.len() / 3
+        && same_digits(&list, entries)
 }
 
-// The first three rules.
-pub(crate) fn try_lives() {
-    try_rows(
-        b"lives",
-        b"a joined task goes on: 2 0 0 1 1 refused 7 3 0F1 1W0 0J1 1W0;\
-        fork of itself: 2 0 0 0 1 refused 7 0 0F0;\
-        forked twice: 2 0 0 0 1 refused 7 1 0F1 0F1;\
-        fork after a record: 2 0 0 1 1 refused 7 1 1W0 0F1;\
-        fork after a record, and again: 2 0 0 1 1 refused 7 2 0F1 1W0 0F1;\
-        join of itself: 2 0 0 0 1 refused 7 0 0J0;\
-        joined twice: 2 0 0 0 1 refused 7 2 0F1 0J1 0J1;\
-        join by another task: 3 0 0 0 1 refused 0 0 0F1 2J1;\
-        a joined task joins: 3 0 0 0 1 refused 7 3 0F1 0F2 0J1 1J2;\
-        life before wait: 2 1 0 0 1 refused 7 2 0F1 0J1 1P0;\
-        name before life: 2 0 0 1 1 refused 6 2 0F1 0J1 1W1;\
-        life before flag: 2 0 1 0 3 1 refused 7 2 0F1 0J1 1G0;\
-        a joined task posts: 2 0 1 0 3 1 refused 7 3 0F1 1O0 0J1 1O0;",
-    );
+// ---- whole recordings
+
+fn try_budgets(t: Tally, file: &[u8]) -> Tally {
+    let mut next = t;
+    for budget in 0..5u32 {
+        next = try_questions(try_analysing(next, file, budget), file, budget, b"====");
+    }
+    next
 }
 
-// The wait rule, the first faulty record, and runs of several passes.
-pub(crate) fn try_waits() {
-    try_rows(
-        b"waits",
-        b"a signal and a wait, no cell: 1 1 0 0 1 refused 0 0 0S0 0P0;\
-        two waits for one signal: 1 1 0 0 1 refused 8 2 0S0 0P0 0P0;\
-        signal on another semaphore: 1 2 0 0 1 refused 8 1 0S0 0P1;\
-        wait before signal: 1 1 0 0 1 refused 8 0 0P0 0S0;\
-        first faulty record: 1 1 0 0 1 refused 8 0 0P0 0z0;\
-        seven passes: 2 1 0 0 1 refused 0 0 \
-        1S0 0P0 0S0 0P0 0S0 0P0 0S0 0P0 0S0 0P0 0S0 0S0 1P0 1P0;\
-        a fork after a write, two signals: 3 1 0 1 1 refused 0 0 0W0 0F1 1S0 2P0 1S0;",
-    );
+// `whole | COUNTS | LEVELS | EVENTS | ANSWER`: all that is compared of a small file; `brief`: one size of each memory.
+pub(crate) fn try_recording(t: Tally, row: &[u8], whole: bool) -> Tally {
+    let mut bytes = [0u8; 4400];
+    let length = put_recording(row, 1, &mut bytes);
+    let file = part_of(&bytes, 0, length);
+    let answered = count(t, answers(file, section(row, 4)), file);
+    let read = try_reading(answered, file);
+    if !whole {
+        return try_one(read, file, ENDLESS, (length % 65536) as u32 / 4);
+    }
+    let most = try_analysing(try_budgets(read, file), file, ENDLESS);
+    let asked = try_questions(most, file, ENDLESS, b"-===");
+    count(
+        try_writing(asked, file),
+        printed::printing_agrees(file),
+        file,
+    )
 }
 
-// Which events conflict, and the order of the entries.
-pub(crate) fn try_pairs() {
-    try_rows(
-        b"pairs",
-        b"a read before a write: 2 0 0 1 1 refused 0 0 0R0 1W0;\
-        two reads: 2 0 0 1 1 refused 0 0 0R0 1R0;\
-        one task: 1 0 0 1 1 refused 0 0 0R0 0W0;\
-        two cells: 2 0 0 2 1 refused 0 0 0W0 1W1;\
-        by cell, lower task, higher task: 3 0 0 2 1 refused 0 0 0W1 0W0 1W0 1W1 2R0 2R1;\
-        before a fork, between fork and join, after the join: 2 0 0 1 1 refused 0 0 \
-        0R0 0F1 1W0 0R0 0J1 0R0;\
-        posts, flag waits and accesses of the number 0: 3 0 1 1 3 1 lists 2 021 \
-        0W0 1O0 2W0 2G0;",
-    );
+// Puts a text whose lines end in ';', from its second byte to the last ';'; its length.
+fn put_text(text: &mut [u8], s: &[u8]) -> usize {
+    let mut end = 0;
+    for i in 0..s.len() {
+        let c = byte(s, i + 1);
+        put_byte(text, i, if c == b';' { b'\n' } else { c });
+        end = if c == b';' { i + 1 } else { end };
+    }
+    end
 }
 
-// The rows of request 2, and recordings in which tasks and records go in different orders.
-pub(crate) fn try_task_order() {
-    try_rows(
-        b"task order",
-        b"the events of G, no pass: 3 1 0 2 1 lists 0 020321520 0W0 0F1 1W0 0R0 0J1 0W0;\
-        the events of G: 3 1 0 2 1 lists 2 321 0W0 0F1 1W0 0R0 0J1 0W0;\
-        the last task first: 3 1 0 2 1 lists 1 211201101 2W0 1W0 0W0;\
-        accesses of one task between those of others: 3 1 0 2 1 lists 1 \
-        101121151131401451431031231531 1W0 0W0 1R0 2W0 0R0 1W0;\
-        two cells in turn, the higher first: 3 1 0 2 1 lists 1 121141301501 \
-        1W1 0W0 1R0 0W1 1W0 0R1;\
-        the lower task follows the higher in this run: 3 1 0 2 1 lists 0 400 1W0 1S0 0P0 0S0 0R0;\
-        and in every run: 3 1 0 2 1 lists 2 - 1W0 1S0 0P0 0S0 0R0;\
-        the lower task follows one of two higher ones in this run: 3 1 0 2 1 lists 1 521500201 \
-        2W0 2S0 1W0 1S0 0P0 0R0;",
-    );
+// `prints | COUNTS | LEVELS | EVENTS | TEXT`: what is printed of a recording.
+pub(crate) fn try_prints(t: Tally, row: &[u8]) -> Tally {
+    let mut bytes = [0u8; 400];
+    let mut text = [0u8; 400];
+    let length = put_recording(row, 1, &mut bytes);
+    let n = put_text(&mut text, section(row, 4));
+    let file = part_of(&bytes, 0, length);
+    count(t, printed::prints(file, part_of(&text, 0, n)), file)
 }
 
-// One job with a hand-over, in four orders of its records: the same entries by task and position.
-pub(crate) fn try_recorded_orders() {
-    try_rows(
-        b"recorded orders",
-        b"task 2 last: 3 1 0 2 1 lists 2 041341 0W0 0S0 1P0 1R0 2W0;\
-        before the wait: 3 1 0 2 1 lists 2 021421 0W0 0S0 2W0 1P0 1R0;\
-        before the signal: 3 1 0 2 1 lists 2 011411 0W0 2W0 0S0 1P0 1R0;\
-        first: 3 1 0 2 1 lists 2 101401 2W0 0W0 0S0 1P0 1R0;",
-    );
+// ---- calls
+
+// A call that answers so, with each of the lent sizes that are named.
+fn try_sized(
+    t: Tally,
+    c: Call,
+    one: &[u8],
+    two: &[u8],
+    three: &[u8],
+    need: Lent,
+    sizes: &[u8],
+    answer: &[u8],
+) -> Tally {
+    let mut next = t;
+    for k in 0..8u16 {
+        let letters = word(sizes, k);
+        if letters.len() == 0 {
+            return next;
+        }
+        next = try_answer(next, c, one, two, three, sized(need, letters), answer);
+    }
+    next
 }
 
-// The rows of request 1, and B, D and F with a start count of 0.
-pub(crate) fn try_start_rows() {
-    try_rows(
-        b"start rows",
-        b"A, 0: 2 1 0 1 2 0 lists 2 - 0W0 0S0 1P0 1R0;\
-        A, 1: 2 1 0 1 2 1 lists 1 031 0W0 0S0 1P0 1R0;\
-        a second wait: 2 1 0 1 2 1 lists 2 - 0W0 0S0 1P0 1P0 1R0;\
-        D, 1: 3 1 0 1 2 1 lists 1 050 0W0 0S0 1S0 2P0 2P0 2R0;\
-        one wait: 1 1 0 0 2 1 refused 0 0 0P0;\
-        two waits: 1 1 0 0 2 1 refused 8 1 0P0 0P0;\
-        B, 0: 3 1 0 1 2 0 lists 1 040 0W0 0S0 1S0 2P0 2R0;\
-        D, 0: 3 1 0 1 2 0 lists 2 - 0W0 0S0 1S0 2P0 2P0 2R0;\
-        F, 0: 2 1 0 1 2 0 lists 2 - 1W0 1S0 0P0 0S0 0R0;",
-    );
+// A call that answers so, with these lengths of lent memory.
+fn try_answer(
+    t: Tally,
+    c: Call,
+    one: &[u8],
+    two: &[u8],
+    three: &[u8],
+    l: Lent,
+    answer: &[u8],
+) -> Tally {
+    let mut out = [0u8; 8192];
+    let o = call::compare(c, one, two, three, l, &mut out);
+    let told = count_both(t, is_refused(o.told, answer), one, two);
+    try_outcome(told, c, one, two, three, o, &out)
 }
 
-// The wait rule with a start count.
-pub(crate) fn try_start_waits() {
-    try_rows(
-        b"start counts",
-        b"none: 1 1 0 0 2 0 refused 8 0 0P0;\
-        a pool of four: 1 1 0 0 2 4 refused 0 0 0P0 0P0 0P0 0P0;\
-        and a fifth wait: 1 1 0 0 2 4 refused 8 4 0P0 0P0 0P0 0P0 0P0;\
-        the largest: 1 1 0 0 2 255 refused 0 0 0P0 0P0 0S0 0P0;\
-        one more by a signal before: 1 1 0 0 2 1 refused 0 0 0S0 0P0 0P0;\
-        one more by a signal between: 1 1 0 0 2 1 refused 8 3 0P0 0S0 0P0 0P0;\
-        the other semaphore's start count: 1 2 0 0 2 0 4 refused 8 1 0P1 0P0;\
-        the first one's: 1 2 0 0 2 4 0 refused 8 1 0P0 0P1;\
-        the second one's: 1 2 0 0 2 0 1 refused 0 0 0P1;\
-        kind before the wait rule: 1 1 0 1 2 1 refused 5 1 0W0 0y0 0P0;\
-        name before the wait rule: 2 1 0 1 2 1 refused 6 0 0P1;\
-        life before the wait rule: 2 1 0 0 2 0 refused 7 2 0F1 0J1 1P0;\
-        a pool of four beside a flag: 1 1 1 0 3 4 1 refused 8 5 0P0 0P0 0O0 0P0 0P0 0P0;\
-        the post count is no start count: 1 1 1 0 3 0 4 refused 8 0 0P0;",
-    );
+// `analyse BUDGET | COUNTS | LEVELS | EVENTS | SIZES | ANSWER`, and likewise `ask A B BUDGET` and `reversed A B`.
+pub(crate) fn try_call(t: Tally, row: &[u8], which: u8) -> Tally {
+    let mut bytes = [0u8; 400];
+    let head = section(row, 0);
+    let budget = wide(head, if which == ANALYSE { 1 } else { 3 });
+    let c = call_of(which, value(head, 1), value(head, 2), budget);
+    let length = put_recording(row, 1, &mut bytes);
+    let file = part_of(&bytes, 0, length);
+    let need = call::needed(c, file, b"");
+    try_sized(t, c, file, b"", b"", need, section(row, 4), section(row, 5))
 }
 
-// The first waits have no signal, and later ones match from the first signal on.
-pub(crate) fn try_start_matches() {
-    try_rows(
-        b"start matches",
-        b"a pool of four, the fifth wait behind a signal: 2 1 0 0 2 4 refused 0 0 \
-        0P0 0P0 1P0 0P0 1S0 0P0;\
-        the second wait takes the first signal: 3 1 0 1 2 1 refused 0 0 0W0 0S0 1P0 2P0 2R0;\
-        and the third the second: 4 1 0 2 2 1 refused 0 0 \
-        0W0 0S0 1W1 1S0 2P0 2P0 2R0 3P0 3R1;\
-        waits of another task, ordered by a fork: 3 1 0 1 2 2 refused 0 0 \
-        0W0 0S0 1P0 1P0 1F2 2P0 2R0;",
-    );
+// Counts of the first section, and two parts of bytes: start bytes before '/' and post bytes behind it.
+fn counts_of(row: &[u8]) -> Counts {
+    let s = shape_of(section(row, 1));
+    Counts {
+        tasks: s.tasks,
+        semaphores: make::field_of(s),
+        cells: s.cells,
+        edition: s.edition,
+    }
 }
 
-// The flag rule.
-pub(crate) fn try_flags() {
-    try_rows(
-        b"flags",
-        b"a post and a flag wait: 2 0 1 0 3 1 refused 0 0 0O0 1G0;\
-        too few posts: 2 0 1 0 3 2 refused 16 1 0O0 1G0;\
-        before any post: 2 0 1 0 3 1 refused 16 0 1G0 0O0;\
-        two flag waits after one post: 3 0 1 0 3 1 refused 0 0 0O0 1G0 2G0 1G0;\
-        before the second post: 2 0 1 0 3 2 refused 16 1 0O0 1G0 0O0;\
-        after the second post: 2 0 1 0 3 2 refused 0 0 0O0 0O0 1G0 1G0 0O0;\
-        the largest: 2 0 1 0 3 255 refused 16 3 0O0 0O0 0O0 1G0;\
-        posts on another flag: 2 0 2 0 3 1 1 refused 16 1 0O0 1G1;\
-        the other flag's post count: 2 0 2 0 3 2 1 refused 16 3 0O0 0O1 1G1 1G0;\
-        a post is no signal: 2 1 1 0 3 0 1 refused 8 1 0O0 1P0;\
-        a signal is no post: 2 1 1 0 3 0 1 refused 16 1 0S0 1G0;\
-        the first faulty record: 2 1 1 1 3 0 1 refused 16 1 0W0 1G0 1P0;\
-        a post count of 0: 2 0 1 0 3 0 refused 4 0 0O0 1G0;\
-        of the second flag: 2 1 2 0 3 0 1 0 refused 4 0 0O0 1G0;\
-        before a faulty record: 2 0 1 0 3 0 refused 4 0 0x0;\
-        a start count of 0: 2 1 1 0 3 0 1 refused 0 0 0O0 1G0;",
+// `write CUT | COUNTS | STARTS / POSTS | EVENTS | SIZES | ANSWER`: writing with so many record bytes less. With no
+// sizes, each length of the output up to some more than is needed: 12, or none.
+pub(crate) fn try_write(t: Tally, row: &[u8]) -> Tally {
+    let mut bytes = [0u8; 400];
+    let mut starts = [0u8; 80];
+    let mut posts = [0u8; 80];
+    let cut = value(section(row, 0), 1);
+    let end = put_events(&mut bytes, section(row, 3));
+    let levels = section(row, 2);
+    let bar = find(levels, 0, b'/');
+    let n = put_levels(&mut starts, 0, part_of(levels, 0, bar));
+    let m = put_levels(
+        &mut posts,
+        0,
+        part_of(levels, wrapping_add_usize(bar, 1), levels.len()),
     );
+    let records = part_of(&bytes, 0, if cut < end { end - cut } else { 0 });
+    let one = part_of(&starts, 0, n);
+    let two = part_of(&posts, 0, m);
+    let c = call::writing(counts_of(row));
+    let need = call::length_of(records, one, two);
+    if section(row, 4).len() == 0 {
+        return try_outputs(t, c, records, one, two, need);
+    }
+    try_sized(
+        t,
+        c,
+        records,
+        one,
+        two,
+        output(need),
+        section(row, 4),
+        section(row, 5),
+    )
 }
 
-// The rows of request 6, and what a flag wait follows.
-pub(crate) fn try_flag_rows() {
-    try_rows(
-        b"flag rows",
-        b"one post: 2 0 1 1 3 1 lists 2 - 0W0 0O0 1G0 1R0;\
-        one of two: 3 0 1 1 3 1 lists 1 040 0W0 0O0 2O0 1G0 1R0;\
-        both: 3 0 1 1 3 2 lists 2 - 0W0 0O0 2O0 1G0 1R0;\
-        the first post is the other task's: 3 0 1 1 3 1 lists 1 141 1O0 0W0 0O0 2G0 2R0;\
-        a post after the flag wait: 3 0 1 1 3 1 lists 1 030 0W0 0O0 1G0 1R0 2O0;\
-        by the task that waits: 2 0 1 1 3 1 lists 2 - 0W0 0O0 1G0 1O0 1R0;\
-        two of three: 4 0 1 1 3 2 lists 1 050 0W0 0O0 1O0 2O0 3G0 3R0;\
-        two posts of one task: 3 0 1 1 3 2 lists 2 - 0W0 0O0 0O0 1G0 1R0 2O0;\
-        two flag waits: 3 0 1 1 3 1 lists 2 541 0W0 0O0 1G0 2G0 2W0 1R0;\
-        a semaphore and a flag: 3 1 1 1 3 0 1 lists 2 - 0W0 0S0 1P0 1O0 2G0 2R0;\
-        a start count and a flag: 3 1 1 1 3 1 1 lists 2 051 0W0 0S0 1P0 1O0 2G0 2R0;\
-        a later pass: 3 1 1 1 3 0 1 lists 3 - 0W0 0O0 1G0 1R0 1S0 2P0 2O0;",
-    );
+fn try_outputs(
+    t: Tally,
+    c: Call,
+    records: &[u8],
+    starts: &[u8],
+    posts: &[u8],
+    need: usize,
+) -> Tally {
+    let mut next = t;
+    for room in 0..wrapping_add_usize(need, 9) {
+        next = if room < need {
+            try_answer(next, c, records, starts, posts, output(room), b"refused 12")
+        } else {
+            try_answer(next, c, records, starts, posts, output(room), b"refused 0")
+        };
+    }
+    next
 }
 
-// A recording in edition 2 with one semaphore and one cell, and what is printed of it.
-fn try_start_printed(start: u32, tasks: u16, first: u8, text: &[u8], printed: &[u8]) -> u32 {
-    let s = make::empty_shape(tasks, 1, 1, 2);
-    try_printed(start, s, &[first], text, printed)
+// Writing an empty recording with n start bytes and m post bytes.
+fn try_lend(t: Tally, c: Call, n: usize, m: usize, answer: &[u8]) -> Tally {
+    let bytes = [3u8; 65537];
+    let starts = part_of(&bytes, 0, n);
+    let posts = part_of(&bytes, 0, m);
+    try_answer(t, c, b"", starts, posts, output(8192), answer)
 }
 
-// A recording of one wait with no start bytes, and the line of its refusal.
-fn try_refused_line(start: u32, edition: u16, line: &[u8]) -> u32 {
-    let s = make::empty_shape(1, 1, 0, edition);
-    try_printed(start, s, b"", b"0P0", line)
+// `lend STARTS POSTS | COUNTS | ANSWER`: an empty recording written with so many start bytes and post bytes.
+pub(crate) fn try_lent_levels(t: Tally, row: &[u8]) -> Tally {
+    let head = section(row, 0);
+    let c = call::writing(counts_of(row));
+    try_lend(t, c, value(head, 1), value(head, 2), section(row, 2))
 }
 
-// What is printed: the file of document 01, rows of request 1, and refusals.
-pub(crate) fn try_prints() {
-    let mut total = 0;
-    total = try_printed(
-        total,
-        make::empty_shape(2, 0, 1, 1),
-        b"",
-        b"0W0 0F1 1W0 0R0 0J1 0W0",
-        b"events 6 tasks 2 passes 2 settled yes pairs 1\ncell 0 3 2 sure\n",
+// `starts STARTS POSTS | COUNTS`: each number of start bytes up to 79 in place of the right one; `posts`: of post bytes.
+pub(crate) fn try_numbers(t: Tally, row: &[u8], posts: bool) -> Tally {
+    let head = section(row, 0);
+    let c = call::writing(counts_of(row));
+    let n = value(head, 1);
+    let m = value(head, 2);
+    let mut next = t;
+    for i in 0..80usize {
+        let starts = if posts { n } else { i };
+        let others = if posts { i } else { m };
+        next = if starts == n && others == m {
+            try_lend(next, c, starts, others, b"refused 0")
+        } else {
+            try_lend(next, c, starts, others, b"refused 13")
+        };
+    }
+    next
+}
+
+// ---- pairs shown reversed
+
+// The library writes the file's records in this order, a digit for each, or refuses the pair so.
+fn shows_as(file: &[u8], x: usize, y: usize, s: &[u8]) -> bool {
+    let mut shown = [0u8; 400];
+    let refusal = refusal_of(call_of(REVERSED, x, y, 0), file, &mut shown);
+    let order = word(s, 0);
+    if byte(order, 0) == b'r' {
+        return refusal == short(s, 1);
+    }
+    let records = recording::records(file);
+    let n = (order.len() % 16) as u16;
+    for i in 0..n {
+        if !same_record(records, digit(order, i as usize) as u16, &shown, i) {
+            return false;
+        }
+    }
+    refusal == 0 && n as usize == records.len() / 4
+}
+
+// `shows X Y | COUNTS | LEVELS | EVENTS | ORDER | OTHER`: the order with x chosen, and with y chosen.
+pub(crate) fn try_shows(t: Tally, row: &[u8]) -> Tally {
+    let mut bytes = [0u8; 400];
+    let head = section(row, 0);
+    let x = value(head, 1);
+    let y = value(head, 2);
+    let length = put_recording(row, 1, &mut bytes);
+    let file = part_of(&bytes, 0, length);
+    let there = count(t, shows_as(file, x, y, section(row, 4)), file);
+    let back = count(there, shows_as(file, y, x, section(row, 5)), file);
+    try_sizes(try_pair(back, file, x, y), file, x, y)
+}
+
+// ---- two recordings
+
+// Each length of each work memory and of the list, up to some more than is needed.
+fn try_rooms(t: Tally, c: Call, one: &[u8], two: &[u8], need: Lent) -> Tally {
+    let most = if need.work < need.list {
+        need.list
+    } else {
+        need.work
+    };
+    let mut next = t;
+    for n in 0..wrapping_add_usize(most, 9) {
+        let mut work = need;
+        let mut other = need;
+        let mut list = need;
+        work.work = n;
+        other.other = n;
+        list.list = n;
+        next = try_lent(next, c, one, two, b"", work);
+        next = try_lent(next, c, one, two, b"", other);
+        next = try_lent(next, c, one, two, b"", list);
+    }
+    next
+}
+
+// `pairs ENTRIES`, a digit for each number and '-' for none; or `refused ..`.
+fn both_answer(c: Call, one: &[u8], two: &[u8], s: &[u8]) -> bool {
+    let mut list = [0u16; 64];
+    let mut out = [0u8; 1];
+    let o = call::answer(c, one, two, &mut list, &mut out);
+    if byte(word(s, 0), 0) == b'r' {
+        return is_refused(o, s);
+    }
+    let w = word(s, 1);
+    let entries = if byte(w, 0) == b'-' {
+        part_of(w, 0, 0)
+    } else {
+        w
+    };
+    o.refusal == 0 && o.pairs as usize == entries.len() / 5 && same_digits(&list, entries)
+}
+
+// `both | COUNTS | LEVELS | EVENTS | COUNTS | LEVELS | EVENTS | ANSWER`: two files, in every size of lent memory.
+pub(crate) fn try_both(t: Tally, row: &[u8]) -> Tally {
+    let mut a = [0u8; 400];
+    let mut b = [0u8; 400];
+    let n = put_recording(row, 1, &mut a);
+    let m = put_recording(row, 4, &mut b);
+    let one = part_of(&a, 0, n);
+    let two = part_of(&b, 0, m);
+    let c = call_of(TOGETHER, 0, 0, 0);
+    let answered = count_both(t, both_answer(c, one, two, section(row, 7)), one, two);
+    let need = call::needed(c, one, two);
+    try_ways(
+        try_rooms(answered, c, one, two, need),
+        c,
+        one,
+        two,
+        call::WAYS,
+    )
+}
+
+// ---- edges
+
+// In edition 3, levels of 3 between the records and the trailer.
+fn put_threes(file: &mut [u8], edition: u16, from: usize, to: usize) {
+    if edition != 3 {
+        return;
+    }
+    if file.len() < to {
+        return;
+    }
+    if to < from {
+        return;
+    }
+    fill_bytes(&mut file[from..to], 3);
+}
+
+fn put_writes(file: &mut [u8], start: usize) {
+    for e in 0..1025usize {
+        put_byte(file, wrapping_add_usize(start, e * 4 + 1), 6);
+    }
+}
+
+// A file of so many bytes, with writes of cell 0 from the start on, before edition 3 also where start bytes
+// stand, and a trailer.
+fn put_edge(file: &mut [u8], length: usize, start: u32, records: u32, s: Shape) {
+    if length < 16 {
+        return;
+    }
+    let from = start as usize;
+    make::mark_preamble(file, from);
+    put_writes(file, from);
+    put_threes(file, s.edition, from + records as usize * 4, length - 16);
+    make::put_trailer(file, length - 16, start, records, s);
+}
+
+// Writing the bytes between preamble and trailer with these counts, in range or not: all as records, and the first
+// of them as records and the others as level bytes.
+fn try_between(t: Tally, between: &[u8], size: usize, c: Counts) -> Tally {
+    let call = call::writing(c);
+    let all = between.len();
+    let whole = try_lent(t, call, between, b"", b"", output(8192));
+    let low = wrapping_add_usize(size, c.semaphores as usize % 256);
+    let mid = if c.edition == 3 && low < all {
+        low
+    } else {
+        all
+    };
+    let records = part_of(between, 0, size);
+    let starts = part_of(between, size, mid);
+    try_lent(
+        whole,
+        call,
+        records,
+        starts,
+        part_of(between, mid, all),
+        output(8192),
+    )
+}
+
+// `edge LENGTH START RECORDS | COUNTS | refused NUMBER`: a file at the ends of what a trailer may say.
+pub(crate) fn try_edge(t: Tally, row: &[u8]) -> Tally {
+    let mut bytes = [0u8; 4400];
+    let head = section(row, 0);
+    let length = value(head, 1);
+    let start = wide(head, 2);
+    let records = wide(head, 3);
+    put_edge(
+        &mut bytes,
+        length,
+        start,
+        records,
+        shape_of(section(row, 1)),
     );
-    total = try_start_printed(
-        total,
-        2,
-        1,
-        b"0W0 0S0 1P0 1R0",
-        b"events 4 tasks 2 passes 1 settled yes pairs 1\ncell 0 0 3 sure\n",
-    );
-    total = try_start_printed(
-        total,
-        3,
-        1,
-        b"0W0 0S0 1S0 2P0 2P0 2R0",
-        b"events 6 tasks 3 passes 1 settled yes pairs 1\ncell 0 0 5 open\n",
-    );
-    total = try_start_printed(total, 1, 1, b"0P0 0P0", b"refused 8 1\n");
-    total = try_refused_line(total, 1, b"refused 8 0\n");
-    total = try_refused_line(total, 2, b"refused 3 0\n");
-    total = try_refused_line(total, 3, b"refused 3 0\n");
-    total = try_refused_line(total, 4, b"refused 2 0\n");
-    let flag = make::empty_shape(2, 256, 1, 3);
-    total = try_printed(total, flag, b"\x02", b"0O0 1G0", b"refused 16 1\n");
-    total = try_printed(total, flag, b"\x00", b"0O0 1G0", b"refused 4 0\n");
-    total = try_printed(
-        total,
-        flag,
-        b"\x01",
-        b"0W0 0O0 1G0 1R0",
-        b"events 4 tasks 2 passes 2 settled yes pairs 0\n",
-    );
-    say(b"printed", total);
+    let file = part_of(&bytes, 0, length);
+    let refused = count(t, refused_as(file, short(section(row, 2), 1), 0), file);
+    let end = if length < 16 { 0 } else { length - 16 };
+    let between = part_of(file, start as usize, end);
+    let written = try_between(refused, between, records as usize * 4, counts_of(row));
+    try_reading(try_writing(try_analysing(written, file, 2), file), file)
 }

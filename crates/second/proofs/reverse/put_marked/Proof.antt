@@ -7,10 +7,10 @@ use Rattle.second.proofs.reverse.put_marked.Statement.{statement}
 use Rattle.second.proofs.reverse.put_marked.Tie as tie
 
 abbrev Inv-loop : tie.InvT-loop
-Inv-loop records n marks mark turned₀ others next₀ e₀ turned next e = length turned ≡ length turned₀
+Inv-loop records n marks mark others turned₀ next₀ e₀ turned next e = length turned ≡ length turned₀
 
 abbrev μ-loop : tie.MeasureT-loop
-μ-loop records n marks mark turned₀ others next₀ e₀ turned next e = n - e
+μ-loop records n marks mark others turned₀ next₀ e₀ turned next e = n - e
 
 pub put-marked-spec : {M : Type 1} → statement M
 put-marked-spec =

@@ -5,10 +5,10 @@ use Rattle.second.proofs.vectors.kth.Statement.{statement}
 use Rattle.second.proofs.vectors.kth.Tie as tie
 
 abbrev Inv-loop : tie.InvT-loop
-Inv-loop bins k passed₀ value₀ passed value = Unit {0}
+Inv-loop counts t k passed₀ value₀ passed value = Unit {0}
 
 abbrev μ-loop : tie.MeasureT-loop
-μ-loop bins k passed₀ value₀ passed value = 1025 - value
+μ-loop counts t k passed₀ value₀ passed value = 1025 - value
 
 pub kth-spec : {M : Type 1} → statement M
 kth-spec =
@@ -18,8 +18,9 @@ kth-spec =
     μ-loop
     (λ c. tt)
     (λ c. omega arith)
-    (λ c κs. tt)
     (λ c. omega arith)
+    (λ c. omega arith)
+    (λ c κs. tt)
     (λ c κs. tt)
     (λ c. tt)
     (λ c. omega arith)

@@ -7,10 +7,10 @@ use Rattle.second.proofs.vectors.pass.Statement.{statement}
 use Rattle.second.proofs.vectors.pass.Tie as tie
 
 abbrev Inv-loop : tie.InvT-loop
-Inv-loop events links starts n v₀ rose₀ e₀ v rose e = length v ≡ length v₀
+Inv-loop state₀ n rose₀ e₀ state rose e = length state ≡ length state₀
 
 abbrev μ-loop : tie.MeasureT-loop
-μ-loop events links starts n v₀ rose₀ e₀ v rose e = n - e
+μ-loop state₀ n rose₀ e₀ state rose e = n - e
 
 pub pass-spec : {M : Type 1} → statement M
 pass-spec =

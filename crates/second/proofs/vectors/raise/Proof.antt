@@ -7,10 +7,10 @@ use Rattle.second.proofs.vectors.raise.Statement.{statement}
 use Rattle.second.proofs.vectors.raise.Tie as tie
 
 abbrev Inv-loop : tie.InvT-loop
-Inv-loop v₀ e by rose₀ t₀ v rose t = length v ≡ length v₀
+Inv-loop state₀ vectors e link rose₀ t₀ state rose t = length state ≡ length state₀
 
 abbrev μ-loop : tie.MeasureT-loop
-μ-loop v₀ e by rose₀ t₀ v rose t = 16 - t
+μ-loop state₀ vectors e link rose₀ t₀ state rose t = 16 - t
 
 pub raise-spec : {M : Type 1} → statement M
 raise-spec =
@@ -18,7 +18,10 @@ raise-spec =
     (tie.spec
     Inv-loop
     μ-loop
+    (λ c. tt)
     (λ c. omega arith)
+    (λ c κs. tt)
+    (λ c κs. tt)
     (λ c κs. tt)
     (λ c κs. tt)
     (λ c κs. tt)

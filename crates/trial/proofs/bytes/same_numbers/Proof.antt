@@ -5,10 +5,10 @@ use Rattle.trial.proofs.bytes.same_numbers.Statement.{statement}
 use Rattle.trial.proofs.bytes.same_numbers.Tie as tie
 
 abbrev Inv-loop : tie.InvT-loop
-Inv-loop a b n i₀ i = Unit {0}
+Inv-loop a b used i₀ i-end i = Unit {0}
 
 abbrev μ-loop : tie.MeasureT-loop
-μ-loop a b n i₀ i = n - i
+μ-loop a b used i₀ i-end i = i-end - i
 
 pub same-numbers-spec : {M : Type 1} → statement M
 same-numbers-spec =
@@ -17,6 +17,7 @@ same-numbers-spec =
     Inv-loop
     μ-loop
     (λ c. tt)
+    (λ c κs. tt)
     (λ c κs. tt)
     (λ c κs. tt)
     (λ c. tt)

@@ -7,10 +7,10 @@ use Rattle.trial.proofs.jobs.rename_tasks.Statement.{statement}
 use Rattle.trial.proofs.jobs.rename_tasks.Tie as tie
 
 abbrev Inv-loop : tie.InvT-loop
-Inv-loop file₀ at n a b e₀ file e = length file ≡ length file₀
+Inv-loop file₀ start n a b e₀ file e = length file ≡ length file₀
 
 abbrev μ-loop : tie.MeasureT-loop
-μ-loop file₀ at n a b e₀ file e = n - e
+μ-loop file₀ start n a b e₀ file e = n - e
 
 pub rename-tasks-spec : {M : Type 1} → statement M
 rename-tasks-spec =
@@ -19,7 +19,6 @@ rename-tasks-spec =
     Inv-loop
     μ-loop
     (λ c. omega arith)
-    (λ c κs. tt)
     (λ c κs. tt)
     (λ c κs. tt)
     (λ c. omega arith)

@@ -7,10 +7,10 @@ use Rattle.trial.proofs.jobs.shuffle.Statement.{statement}
 use Rattle.trial.proofs.jobs.shuffle.Tie as tie
 
 abbrev Inv-loop : tie.InvT-loop
-Inv-loop seed₀ file₀ at n i₀ seed file i = length file ≡ length file₀
+Inv-loop seed₀ file₀ start n m i₀ i-end seed file i = length file ≡ length file₀
 
 abbrev μ-loop : tie.MeasureT-loop
-μ-loop seed₀ file₀ at n i₀ seed file i = 6 - i
+μ-loop seed₀ file₀ start n m i₀ i-end seed file i = i-end - i
 
 pub shuffle-spec : {M : Type 1} → statement M
 shuffle-spec =
@@ -18,7 +18,18 @@ shuffle-spec =
     (tie.spec
     Inv-loop
     μ-loop
+    (λ c κs. tt)
     (λ c. omega arith)
+    (λ c κs. tt)
+    (λ c. omega arith)
+    (λ c κs. tt)
+    (λ c. omega arith)
+    (λ c. omega arith)
+    (λ c. omega arith)
+    (λ c. omega arith)
+    (λ c. omega arith)
+    (λ c. omega arith)
+    (λ c κs. tt)
     (λ c κs. tt)
     (λ c. omega arith)
     (λ c. omega arith)

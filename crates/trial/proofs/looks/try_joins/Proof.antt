@@ -5,10 +5,10 @@ use Rattle.trial.proofs.looks.try_joins.Statement.{statement}
 use Rattle.trial.proofs.looks.try_joins.Tie as tie
 
 abbrev Inv-loop : tie.InvT-loop
-Inv-loop start records n total₀ e₀ total e = Unit {0}
+Inv-loop records n next₀ e₀ next e = Unit {0}
 
 abbrev μ-loop : tie.MeasureT-loop
-μ-loop start records n total₀ e₀ total e = n - e
+μ-loop records n next₀ e₀ next e = n - e
 
 pub try-joins-spec : {M : Type 1} → statement M
 try-joins-spec =
@@ -17,6 +17,9 @@ try-joins-spec =
     Inv-loop
     μ-loop
     (λ c. tt)
+    (λ c κs. tt)
+    (λ c κs. tt)
+    (λ c κs. tt)
     (λ c κs. tt)
     (λ c. omega arith)
     (λ c. omega arith)

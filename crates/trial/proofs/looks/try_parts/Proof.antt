@@ -5,10 +5,10 @@ use Rattle.trial.proofs.looks.try_parts.Statement.{statement}
 use Rattle.trial.proofs.looks.try_parts.Tie as tie
 
 abbrev Inv-loop : tie.InvT-loop
-Inv-loop start bytes tasks total₀ from₀ from-end total from = Unit {0}
+Inv-loop bytes tasks ends next₀ i₀ i-end next i = Unit {0}
 
 abbrev μ-loop : tie.MeasureT-loop
-μ-loop start bytes tasks total₀ from₀ from-end total from = from-end - from
+μ-loop bytes tasks ends next₀ i₀ i-end next i = i-end - i
 
 pub try-parts-spec : {M : Type 1} → statement M
 try-parts-spec =
@@ -16,8 +16,15 @@ try-parts-spec =
     (tie.spec
     Inv-loop
     μ-loop
+    (λ c. omega arith)
+    (λ c. omega arith)
     (λ c κs. tt)
     (λ c. tt)
+    (λ c. omega arith)
+    (λ c. omega arith)
+    (λ c. omega arith)
+    (λ c. omega arith)
+    (λ c κs. tt)
     (λ c κs. tt)
     (λ c. omega arith)
     (λ c. omega arith)

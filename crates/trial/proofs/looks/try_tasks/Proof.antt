@@ -5,10 +5,10 @@ use Rattle.trial.proofs.looks.try_tasks.Statement.{statement}
 use Rattle.trial.proofs.looks.try_tasks.Tie as tie
 
 abbrev Inv-loop : tie.InvT-loop
-Inv-loop start part tasks total₀ t₀ total t = Unit {0}
+Inv-loop part tasks next₀ task₀ next task = Unit {0}
 
 abbrev μ-loop : tie.MeasureT-loop
-μ-loop start part tasks total₀ t₀ total t = tasks - t
+μ-loop part tasks next₀ task₀ next task = tasks - task
 
 pub try-tasks-spec : {M : Type 1} → statement M
 try-tasks-spec =

@@ -7,10 +7,10 @@ use Rattle.trial.proofs.make.grow_all.Statement.{statement}
 use Rattle.trial.proofs.make.grow_all.Tie as tie
 
 abbrev Inv-loop : tie.InvT-loop
-Inv-loop seed₀ s life₀ file₀ tries n₀ i₀ seed life file n i = (length life ≡ length life₀) × (length file ≡ length file₀)
+Inv-loop seed₀ s life₀ file₀ n₀ i₀ i-end seed life file n i = (length life ≡ length life₀) × (length file ≡ length file₀)
 
 abbrev μ-loop : tie.MeasureT-loop
-μ-loop seed₀ s life₀ file₀ tries n₀ i₀ seed life file n i = tries - i
+μ-loop seed₀ s life₀ file₀ n₀ i₀ i-end seed life file n i = i-end - i
 
 pub grow-all-spec : {M : Type 1} → statement M
 grow-all-spec =
@@ -19,10 +19,12 @@ grow-all-spec =
     Inv-loop
     μ-loop
     (λ c. omega arith)
+    (λ c. omega arith)
+    (λ c. (omega arith, omega arith))
     (λ c κs. tt)
     (λ c. omega arith)
     (λ c. omega arith)
-    (λ c. omega arith)
+    (λ c. (omega arith, omega arith))
     (λ c. omega arith)
     (λ c. omega arith)
     (λ c. tt))

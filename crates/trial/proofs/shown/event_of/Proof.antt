@@ -1,5 +1,4 @@
--- `trial::shown::event_of` is safe and ends. Nothing has to hold from turn to turn. The measure is what is left of the range.
--- Assumes nothing.
+-- `trial::shown::event_of` is safe and ends. Nothing has to hold from turn to turn. The measure is what is left of the range. Assumes nothing.
 use Prim.Native.Nat.{_-_}
 use native.Mathlib.Omega.{arith}
 use Rattle.trial.proofs.shown.event_of.Statement.{statement}
