@@ -71,24 +71,27 @@ pub(crate) fn try_last(t: Tally, row: &[u8]) -> Tally {
     count(t, finds(part, task, false, 0, value(s, 1)), part)
 }
 
-// `sevens LENGTH RECORDS`: a part of so many bytes and whole records, all of task 7: it is found in the last
-// record. With another task in the first record, that one is found there, and a third one nowhere.
-pub(crate) fn try_sevens(t: Tally, head: &[u8]) -> Tally {
-    let mut bytes = [7u8; 262152];
-    let length = value(head, 1);
-    let n = value(head, 2);
+// In the first bytes of those lent, n whole records of task 7, it is found in the last record. With another task
+// in the first record, that one is found there, and a third one nowhere.
+fn try_sevens_in(t: Tally, bytes: &mut [u8], length: usize, n: usize) -> Tally {
     let some = n != 0;
     let last = if n == 0 { 0 } else { n - 1 };
-    let part = part_of(&bytes, 0, length);
+    let part = part_of(bytes, 0, length);
     let one = count(
         t,
         finds(part, 7, some, last, if some { 1 } else { 0 }),
         part,
     );
-    put_byte(&mut bytes, 0, 1);
-    let part = part_of(&bytes, 0, length);
+    put_byte(bytes, 0, 1);
+    let part = part_of(bytes, 0, length);
     let two = count(one, finds(part, 1, some, 0, n), part);
     count(two, finds(part, 9, false, 0, n), part)
+}
+
+// `sevens LENGTH RECORDS`: a part of so many bytes and whole records, all of task 7.
+pub(crate) fn try_sevens(t: Tally, head: &[u8]) -> Tally {
+    let mut bytes = [7u8; 262152];
+    try_sevens_in(t, &mut bytes, value(head, 1), value(head, 2))
 }
 
 // ---- all parts

@@ -126,8 +126,8 @@ fn try_lines(text: &[u8]) {
             p = try_line(p, text, i);
         }
     }
-    p = end_group(p, text);
-    say_number(b"rows ", p.before);
+    let last = try_line(p, text, text.len());
+    say_number(b"rows ", end_group(last, text).before);
 }
 
 fn main() {

@@ -6,10 +6,10 @@ use Rattle.trial.proofs.try_lines.Statement.{statement}
 use Rattle.trial.proofs.try_lines.Tie as tie
 
 abbrev Inv-loop : tie.InvT-loop
-Inv-loop text p₀ i₀ t4 i-end p i = Unit {0}
+Inv-loop text p₀ i₀ t5 i-end p i = Unit {0}
 
 abbrev μ-loop : tie.MeasureT-loop
-μ-loop text p₀ i₀ t4 i-end p i = i-end - i
+μ-loop text p₀ i₀ t5 i-end p i = i-end - i
 
 pub try-lines-spec : {M : Type 1} → statement M
 try-lines-spec =
@@ -26,5 +26,6 @@ try-lines-spec =
     (λ c. tt)
     (λ c κs. tt)
     (λ c. search needs)
+    (λ c κs. tt)
     (λ c κs. tt)
     (λ c. tt))
