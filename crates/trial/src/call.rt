@@ -1,5 +1,6 @@
-// One call of the library and of the second analyser, with the same memory lent to both: their answers and
-// all that they leave are compared. One form of call, of answer and of lent memory serves all calls.
+// One call of the library and of the second analyser, with the same memory lent to both: their answers
+// and all that they leave are compared. One form of call, of answer and of lent memory serves all
+// calls.
 use crate::bytes::BYTE_MARK;
 use crate::bytes::MARK;
 use crate::bytes::byte;
@@ -34,8 +35,9 @@ pub(crate) const TURNED: u8 = 4;
 
 pub(crate) const WRITE: u8 = 5;
 
-// Which call it is, its two events, its budget, and for writing its counts. Behind it come up to three parts of
-// bytes: the file, or both files, or for writing the records, the start bytes and the post bytes.
+// Which call it is, its two events, its budget, and for writing its counts. Behind it come up to three
+// parts of bytes: the file, or both files, or for writing the records, the start bytes and the post
+// bytes.
 pub(crate) struct Call {
     pub(crate) which: u8,
     pub(crate) a: usize,
@@ -259,8 +261,8 @@ pub(crate) fn list_of(c: Call, one: &[u8], two: &[u8], list: &mut [u16]) -> u32 
 
 // ---- lent memory
 
-// How many work numbers are lent, how many for the second file, how many list numbers, and how many bytes
-// of output.
+// How many work numbers are lent, how many for the second file, how many list numbers, and how many
+// bytes of output.
 pub(crate) struct Lent {
     pub(crate) work: usize,
     pub(crate) other: usize,
@@ -402,8 +404,8 @@ pub(crate) fn compare(
 
 // ---- sizes of lent memory
 
-// As many list numbers as a call needs, up to 8,192 entries: what the second analyser answers with enough
-// work numbers and no list.
+// As many list numbers as a call needs, up to 8,192 entries: what the second analyser answers with
+// enough work numbers and no list.
 pub(crate) fn slots_needed(c: Call, one: &[u8], two: &[u8]) -> usize {
     let mut work = [0u16; 32768];
     let mut other = [0u16; 32768];
@@ -443,7 +445,8 @@ pub(crate) fn needed(c: Call, one: &[u8], two: &[u8]) -> Lent {
     }
 }
 
-// Sizes of the four memories, a letter for each: as many as are needed, some more, one less, one more, none.
+// Sizes of the four memories, a letter for each: as many as are needed, some more, one less, one more,
+// none.
 pub(crate) const WAYS: u32 = 8;
 
 const SIZES: [u8; 32] = [

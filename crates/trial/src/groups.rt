@@ -1,5 +1,5 @@
-// Recordings from fixed seeds: small and large, valid and damaged. One driver draws the recordings of every
-// group, and its kind says what is tried of each.
+// Recordings from fixed seeds: small and large, valid and damaged. One driver draws the recordings of
+// every group, and its kind says what is tried of each.
 use crate::bytes::byte;
 use crate::bytes::first_bytes;
 use crate::bytes::part_of;
@@ -48,9 +48,9 @@ const LOOKS: u16 = 8;
 
 const BYTES: u16 = 9;
 
-// How large the recordings of a group are: at least so many events and fewer than so many more, and below
-// so many more than 1 task, 0 semaphores, 0 flags in edition 3, and 0 cells; their edition; whether all
-// sizes of lent memory are tried or one of them, and of how many pairs, 0 for all.
+// How large the recordings of a group are: at least so many events and fewer than so many more, and
+// below so many more than 1 task, 0 semaphores, 0 flags in edition 3, and 0 cells; their edition;
+// whether all sizes of lent memory are tried or one of them, and of how many pairs, 0 for all.
 struct Group {
     what: u16,
     least: u16,
@@ -209,7 +209,8 @@ fn try_shape(t: Tally, seed: &mut u32, s: Shape, g: Group) -> Tally {
     }
 }
 
-// `KIND SEED TIMES EDITION PAIRS | LEAST MORE TASKS SEMAPHORES CELLS ALL`: so many recordings from a seed.
+// `KIND SEED TIMES EDITION PAIRS | LEAST MORE TASKS SEMAPHORES CELLS ALL`: so many recordings from a
+// seed.
 pub(crate) fn try_group(t: Tally, row: &[u8], what: u16) -> Tally {
     let head = section(row, 0);
     let s = section(row, 1);

@@ -37,8 +37,8 @@ fn swap_records(file: &mut [u8], i: usize) {
     }
 }
 
-// Changes the record at i with the next, in one of two cases, where they are of two tasks and the file is
-// accepted then.
+// Changes the record at i with the next, in one of two cases, where they are of two tasks and the file
+// is accepted then.
 fn try_swap(seed: &mut u32, file: &mut [u8], i: usize) {
     if make::draw(seed, 2) == 0 {
         return;
@@ -65,8 +65,8 @@ fn shuffle(seed: &mut u32, file: &mut [u8]) {
 
 // ---- a second recording
 
-// A recording of the shape with these records, but for the one that starts at a place of them, if any, and
-// these level bytes; its length.
+// A recording of the shape with these records, but for the one that starts at a place of them, if any,
+// and these level bytes; its length.
 fn put_other(file: &mut [u8], s: Shape, records: &[u8], without: usize, levels: &[u8]) -> usize {
     let at = s.preamble as usize;
     let all = records.len();
@@ -94,8 +94,8 @@ fn draw_edition(seed: &mut u32, edition: u16) -> u16 {
     edition
 }
 
-// A second recording of the work of file one, which has shape s: another preamble, and another edition in
-// one of two cases, with start counts of 0 where file one has none; its length.
+// A second recording of the work of file one, which has shape s: another preamble, and another edition
+// in one of two cases, with start counts of 0 where file one has none; its length.
 fn put_second(seed: &mut u32, one: &[u8], s: Shape, without: usize, file: &mut [u8]) -> usize {
     let zeros = [0u8; 64];
     let mut z = s;
@@ -128,8 +128,8 @@ fn put_both(seed: &mut u32, s: Shape, without: usize, a: &mut [u8], b: &mut [u8]
 
 // ---- recordings of the same work
 
-// Each pair of the one list is sure exactly where the list of one of the files has it so; and how many pairs
-// one of the lists alone has as sure, or none where that fails.
+// Each pair of the one list is sure exactly where the list of one of the files has it so; and how many
+// pairs one of the lists alone has as sure, or none where that fails.
 struct Marks {
     agree: bool,
     one_sided: u32,
@@ -153,8 +153,8 @@ fn compare_marks(a: &[u16], b: &[u16], both: &[u16], pairs: u32) -> Marks {
     m
 }
 
-// The library's one list has as many pairs as its list of each file, and their marks; those that one file
-// alone makes sure are met.
+// The library's one list has as many pairs as its list of each file, and their marks; those that one
+// file alone makes sure are met.
 fn try_marks(t: Tally, one: &[u8], two: &[u8]) -> Tally {
     let mut a = [0u16; 24576];
     let mut b = [0u16; 24576];
@@ -240,8 +240,8 @@ fn change_record(seed: &mut u32, file: &mut [u8], i: usize, edition: u16) {
     make::put_record(file, i, d);
 }
 
-// Another record, two tasks for each other, another start count or post count, or another count; nothing
-// where another way is asked.
+// Another record, two tasks for each other, another start count or post count, or another count;
+// nothing where another way is asked.
 fn change(seed: &mut u32, file: &mut [u8], what: u32) {
     let r = second::read(file);
     let start = (r.start % 65536) as u16;

@@ -57,7 +57,8 @@ fn finds(part: &[u8], task: u16, found: bool, record: usize, read: usize) -> boo
     same(look(part, task), o) && agrees(part, task)
 }
 
-// `last TASK FROM TO | EVENTS | found RECORD READ` or `.. | none READ`: in the bytes of the records from one place to another.
+// `last TASK FROM TO | EVENTS | found RECORD READ` or `.. | none READ`: in the bytes of the records
+// from one place to another.
 pub(crate) fn try_last(t: Tally, row: &[u8]) -> Tally {
     let mut bytes = [0u8; 400];
     let head = section(row, 0);
@@ -71,8 +72,8 @@ pub(crate) fn try_last(t: Tally, row: &[u8]) -> Tally {
     count(t, finds(part, task, false, 0, value(s, 1)), part)
 }
 
-// In the first bytes of those lent, n whole records of task 7, it is found in the last record. With another task
-// in the first record, that one is found there, and a third one nowhere.
+// In the first bytes of those lent, n whole records of task 7, it is found in the last record. With
+// another task in the first record, that one is found there, and a third one nowhere.
 fn try_sevens_in(t: Tally, bytes: &mut [u8], length: usize, n: usize) -> Tally {
     let some = n != 0;
     let last = if n == 0 { 0 } else { n - 1 };

@@ -1,7 +1,8 @@
-// The trial: the library and the second analyser compared in everything, on the rows of the input: worked
-// recordings, edge files, refusals, two recordings held together, pairs shown reversed, looks for last events,
-// and groups of generated recordings. Each group prints how many rows it has and how many comparisons it made;
-// each row and each file at which the two differ is printed; the last line counts the rows.
+// The trial: the library and the second analyser compared in everything, on the rows of the input:
+// worked recordings, edge files, refusals, two recordings held together, pairs shown reversed, looks
+// for last events, and groups of generated recordings. Each group prints how many rows it has and how
+// many comparisons it made; each row and each file at which the two differ is printed; the last line
+// counts the rows.
 mod bytes;
 mod call;
 mod groups;
@@ -33,8 +34,8 @@ use tally::say;
 use tally::say_group;
 use tally::say_number;
 
-// How far the rows have been tried: what was counted in the group, its rows and those before it, lines and where the next one
-// starts, and where the group's name stands.
+// How far the rows have been tried: what was counted in the group, its rows and those before it, lines
+// and where the next one starts, and where the group's name stands.
 struct Progress {
     t: Tally,
     rows: u32,

@@ -1,5 +1,5 @@
-// Lists in task order. An event's name is its task and its position. Named so, the list of a job of plain
-// accesses is the same in whatever order the job was recorded.
+// Lists in task order. An event's name is its task and its position. Named so, the list of a job of
+// plain accesses is the same in whatever order the job was recorded.
 use crate::bytes::at_least_one;
 use crate::bytes::number;
 use crate::bytes::part_of;
@@ -103,9 +103,9 @@ fn from_last(n: u16, i: u16) -> u16 {
     if i < n { n - 1 - i } else { 0 }
 }
 
-// Which access record e is: its task, and which of that task's it is in place of an object. Task by task, from the
-// first or from the last on; or the tasks in turn, from the first, from the last, or in each round from the
-// next one on.
+// Which access record e is: its task, and which of that task's it is in place of an object. Task by
+// task, from the first or from the last on; or the tasks in turn, from the first, from the last, or in
+// each round from the next one on.
 fn turn_at(job: Job, order: u32, e: u16) -> Draft {
     let t = at_least_one(job.tasks);
     let n = at_least_one(job.each);
@@ -207,8 +207,8 @@ fn finds(job: Job, pairs: u32, falling: bool) -> bool {
         && counts_down(&list) == falling
 }
 
-// `job TASKS EACH CELLS STEP [PAIRS FALLING]`: a job recorded in five orders; and how many pairs it has, and whether
-// their events count down.
+// `job TASKS EACH CELLS STEP [PAIRS FALLING]`: a job recorded in five orders; and how many pairs it
+// has, and whether their events count down.
 pub(crate) fn try_job(t: Tally, head: &[u8]) -> Tally {
     let job = Job {
         tasks: short(head, 1),

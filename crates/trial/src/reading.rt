@@ -98,8 +98,8 @@ fn same_parts(file: &[u8], r: second::Reading) -> bool {
         && same_walk(records, r.events)
 }
 
-// Reading, the preamble, the records' part, the start bytes, the post bytes and the walk. The parts of a
-// refused file are empty.
+// Reading, the preamble, the records' part, the start bytes, the post bytes and the walk. The parts of
+// a refused file are empty.
 pub(crate) fn reading_agrees(file: &[u8]) -> bool {
     let r = second::read(file);
     if !same_reading(recording::read(file), r) {

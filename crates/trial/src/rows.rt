@@ -1,6 +1,6 @@
 // Rows of the input, which stands in the file `stdin`. A row is a line: its kind and numbers, then its
-// sections, each behind a '|'; words stand between spaces, and what follows '#' is a comment. A line that
-// starts with '=' names the group of the rows after it.
+// sections, each behind a '|'; words stand between spaces, and what follows '#' is a comment. A line
+// that starts with '=' names the group of the rows after it.
 use crate::bytes::byte;
 use crate::bytes::part_of;
 use crate::bytes::product;
@@ -100,7 +100,8 @@ pub(crate) fn shape_of(s: &[u8]) -> Shape {
     }
 }
 
-// Puts the numbers of a section at a place, a byte each, and answers where they end; '-' stands for none.
+// Puts the numbers of a section at a place, a byte each, and answers where they end; '-' stands for
+// none.
 pub(crate) fn put_levels(out: &mut [u8], at: usize, s: &[u8]) -> usize {
     let mut end = at;
     for k in 0..130u16 {

@@ -75,8 +75,8 @@ fn is_reversed(records: &[u8], shown: &[u8], n: u16, x: usize, y: usize) -> bool
     first < then && is_rearranged(records, &names, shown, &other_names, n)
 }
 
-// Reading accepts the recording, with start 0 and the counts, edition, start bytes and post bytes of the
-// file; analysing does; and it shows event x earlier than y.
+// Reading accepts the recording, with start 0 and the counts, edition, start bytes and post bytes of
+// the file; analysing does; and it shows event x earlier than y.
 fn shows(file: &[u8], shown: &[u8], x: usize, y: usize) -> bool {
     let mut list = [0u16; 24576];
     let mut none = [0u8; 1];
@@ -123,8 +123,8 @@ fn is_sure(file: &[u8], x: usize, y: usize) -> bool {
     call::answer(call_of(ASK, x, y, 0), file, b"", &mut list, &mut none).relation == 4
 }
 
-// Both events as the chosen one, with the sizes that are needed and with more. Whichever event is chosen, the
-// library writes a recording or refuses alike, and writes exactly of a sure pair.
+// Both events as the chosen one, with the sizes that are needed and with more. Whichever event is
+// chosen, the library writes a recording or refuses alike, and writes exactly of a sure pair.
 pub(crate) fn try_pair(t: Tally, file: &[u8], x: usize, y: usize) -> Tally {
     let mut shown = [0u8; 4200];
     let c = call_of(REVERSED, x, y, 0);

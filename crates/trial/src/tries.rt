@@ -31,8 +31,8 @@ pub(crate) fn refused_as(file: &[u8], number: u16, record: u16) -> bool {
 
 // ---- calls
 
-// A call that came out so, with this output. Where a whole file was written, it is read back; where it shows a
-// pair reversed, that is looked at.
+// A call that came out so, with this output. Where a whole file was written, it is read back; where it
+// shows a pair reversed, that is looked at.
 pub(crate) fn try_outcome(
     t: Tally,
     c: Call,

@@ -1,5 +1,5 @@
-// Rows on single recordings: worked ones with answers written by hand, calls at the edge of a refusal, and files at
-// the ends of what a trailer may say.
+// Rows on single recordings: worked ones with answers written by hand, calls at the edge of a refusal,
+// and files at the ends of what a trailer may say.
 use crate::bytes::byte;
 use crate::bytes::fill_bytes;
 use crate::bytes::number;
@@ -70,8 +70,9 @@ fn is_refused(o: Told, s: &[u8]) -> bool {
         & (o.position == short(s, 4))
 }
 
-// `lists PASSES ENTRIES`, a digit for each number and '-' for none: the library makes so many passes, settles unless it makes
-// none, which is then its whole budget, and lists these entries. Or `refused ..`.
+// `lists PASSES ENTRIES`, a digit for each number and '-' for none: the library makes so many passes,
+// settles unless it makes none, which is then its whole budget, and lists these entries. Or `refused
+// ..`.
 fn answers(file: &[u8], s: &[u8]) -> bool {
     let mut list = [0u16; 64];
     let mut out = [0u8; 1];
@@ -104,7 +105,8 @@ fn try_budgets(t: Tally, file: &[u8]) -> Tally {
     next
 }
 
-// `whole | COUNTS | LEVELS | EVENTS | ANSWER`: all that is compared of a small file; `brief`: one size of each memory.
+// `whole | COUNTS | LEVELS | EVENTS | ANSWER`: all that is compared of a small file; `brief`: one size
+// of each memory.
 pub(crate) fn try_recording(t: Tally, row: &[u8], whole: bool) -> Tally {
     let mut bytes = [0u8; 4400];
     let length = put_recording(row, 1, &mut bytes);
@@ -184,7 +186,8 @@ fn try_answer(
     try_outcome(told, c, one, two, three, o, &out)
 }
 
-// `analyse BUDGET | COUNTS | LEVELS | EVENTS | SIZES | ANSWER`, and likewise `ask A B BUDGET` and `reversed A B`.
+// `analyse BUDGET | COUNTS | LEVELS | EVENTS | SIZES | ANSWER`, and likewise `ask A B BUDGET` and
+// `reversed A B`.
 pub(crate) fn try_call(t: Tally, row: &[u8], which: u8) -> Tally {
     let mut bytes = [0u8; 400];
     let head = section(row, 0);
@@ -207,8 +210,8 @@ fn counts_of(row: &[u8]) -> Counts {
     }
 }
 
-// `write CUT | COUNTS | STARTS / POSTS | EVENTS | SIZES | ANSWER`: writing with so many record bytes less. With no
-// sizes, each length of the output up to some more than is needed: 12, or none.
+// `write CUT | COUNTS | STARTS / POSTS | EVENTS | SIZES | ANSWER`: writing with so many record bytes
+// less. With no sizes, each length of the output up to some more than is needed: 12, or none.
 pub(crate) fn try_write(t: Tally, row: &[u8]) -> Tally {
     let mut bytes = [0u8; 400];
     let mut starts = [0u8; 80];
@@ -270,14 +273,16 @@ fn try_lend(t: Tally, c: Call, n: usize, m: usize, answer: &[u8]) -> Tally {
     try_answer(t, c, b"", starts, posts, output(8192), answer)
 }
 
-// `lend STARTS POSTS | COUNTS | ANSWER`: an empty recording written with so many start bytes and post bytes.
+// `lend STARTS POSTS | COUNTS | ANSWER`: an empty recording written with so many start bytes and post
+// bytes.
 pub(crate) fn try_lent_levels(t: Tally, row: &[u8]) -> Tally {
     let head = section(row, 0);
     let c = call::writing(counts_of(row));
     try_lend(t, c, value(head, 1), value(head, 2), section(row, 2))
 }
 
-// `starts STARTS POSTS | COUNTS`: each number of start bytes up to 79 in place of the right one; `posts`: of post bytes.
+// `starts STARTS POSTS | COUNTS`: each number of start bytes up to 79 in place of the right one;
+// `posts`: of post bytes.
 pub(crate) fn try_numbers(t: Tally, row: &[u8], posts: bool) -> Tally {
     let head = section(row, 0);
     let c = call::writing(counts_of(row));
@@ -370,7 +375,8 @@ fn both_answer(c: Call, one: &[u8], two: &[u8], s: &[u8]) -> bool {
     o.refusal == 0 && o.pairs as usize == entries.len() / 5 && same_digits(&list, entries)
 }
 
-// `both | COUNTS | LEVELS | EVENTS | COUNTS | LEVELS | EVENTS | ANSWER`: two files, in every size of lent memory.
+// `both | COUNTS | LEVELS | EVENTS | COUNTS | LEVELS | EVENTS | ANSWER`: two files, in every size of
+// lent memory.
 pub(crate) fn try_both(t: Tally, row: &[u8]) -> Tally {
     let mut a = [0u8; 400];
     let mut b = [0u8; 400];
@@ -412,8 +418,8 @@ fn put_writes(file: &mut [u8], start: usize) {
     }
 }
 
-// A file of so many bytes, with writes of cell 0 from the start on, before edition 3 also where start bytes
-// stand, and a trailer.
+// A file of so many bytes, with writes of cell 0 from the start on, before edition 3 also where start
+// bytes stand, and a trailer.
 fn put_edge(file: &mut [u8], length: usize, start: u32, records: u32, s: Shape) {
     if length < 16 {
         return;
@@ -425,8 +431,8 @@ fn put_edge(file: &mut [u8], length: usize, start: u32, records: u32, s: Shape) 
     make::put_trailer(file, length - 16, start, records, s);
 }
 
-// Writing the bytes between preamble and trailer with these counts, in range or not: all as records, and the first
-// of them as records and the others as level bytes.
+// Writing the bytes between preamble and trailer with these counts, in range or not: all as records,
+// and the first of them as records and the others as level bytes.
 fn try_between(t: Tally, between: &[u8], size: usize, c: Counts) -> Tally {
     let call = call::writing(c);
     let all = between.len();

@@ -1,6 +1,6 @@
-// Ways of writing what a file holds: with the output that is needed, and with other ones; with too little
-// for the level bytes; with a record byte less; with a start byte less and one more; in another edition; with a
-// post byte less and one more; and with a post count of 0.
+// Ways of writing what a file holds: with the output that is needed, and with other ones; with too
+// little for the level bytes; with a record byte less; with a start byte less and one more; in another
+// edition; with a post byte less and one more; and with a post count of 0.
 use crate::bytes::part_of;
 use crate::call;
 use crate::call::Lent;
@@ -43,7 +43,8 @@ fn room_in(records: &[u8], levels: &[u8], way: u32) -> Lent {
     sized_by(whole, if way < 6 { way } else { 1 })
 }
 
-// The post bytes in one of the ways: those from n to an end, or in the last way as many, or one, of which the last is 0.
+// The post bytes in one of the ways: those from n to an end, or in the last way as many, or one, of
+// which the last is 0.
 fn posts_in<'a>(levels: &'a [u8], zeros: &'a [u8], n: usize, end: usize, way: u32) -> &'a [u8] {
     let posts = part_of(levels, n, end).len();
     if way != 12 {
