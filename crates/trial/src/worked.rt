@@ -5,7 +5,6 @@ use crate::bytes::fill_bytes;
 use crate::bytes::number;
 use crate::bytes::part_of;
 use crate::bytes::put_byte;
-use crate::bytes::put_bytes;
 use crate::call;
 use crate::call::ANALYSE;
 use crate::call::Call;
