@@ -1,95 +1,26 @@
-// Lists in task order. An event's name is its task and its position. Named so, the list of a job of
-// plain accesses is the same in whatever order the job was recorded.
-use crate::bytes::at_least_one;
-use crate::bytes::number;
-use crate::bytes::part_of;
-use crate::bytes::product;
-use crate::bytes::put_number;
-use crate::bytes::same_numbers;
-use crate::call;
-use crate::call::TOGETHER;
-use crate::call::call_of;
-use crate::make;
-use crate::make::Draft;
-use crate::make::Shape;
-use crate::reading::object_of;
-use crate::rows::short;
-use crate::rows::value;
-use crate::shown::name_events;
-use crate::tally::Tally;
-use crate::tally::count;
-use crate::tries::refused_as;
-use crate::tries::try_way;
-use crate::writing::try_writing_way;
-
-// ---- names
-
-// An entry as four numbers: its cell, its events' names, and its mark.
-fn name_entry(records: &[u8], names: &[u16], list: &[u16], i: u32, named: &mut [u16]) {
-    let from = i as usize * 3;
-    let to = i as usize * 4;
-    let a = number(list, from);
-    let b = number(list, from + 1);
-    put_number(named, to, object_of(records, a));
-    put_number(named, to + 1, number(names, a as usize));
-    put_number(named, to + 2, number(names, b as usize));
-    put_number(named, to + 3, number(list, from + 2));
-}
-
-fn name_entries(records: &[u8], names: &[u16], list: &[u16], pairs: u32, named: &mut [u16]) {
-    for i in 0..pairs {
-        name_entry(records, names, list, i, named);
-    }
-}
-
-// The library's list with its events named, and how many pairs it has; none where it is refused.
-fn named_list(file: &[u8], budget: u32, named: &mut [u16]) -> u32 {
-    let mut list = [0u16; 24576];
-    let mut names = [0u16; 1024];
-    let found = call::list_of(call::analysing(budget), file, b"", &mut list);
-    let pairs = if found < 8193 { found } else { 0 };
-    let records = recording::records(file);
-    name_events(records, &mut names);
-    name_entries(records, &names, &list, pairs, named);
-    pairs
-}
-
-// What an entry is sorted by, in one number; 0 where the lower task does not come first.
-fn key(named: &[u16], i: u32) -> u64 {
-    let at = i as usize * 4;
-    let cell = number(named, at) as u64;
-    let lower = number(named, at + 1) as u64;
-    let higher = number(named, at + 2) as u64;
-    if higher / 2048 <= lower / 2048 {
-        return 0;
-    }
-    cell * 4294967296 + lower * 65536 + higher
-}
-
-// The library's list goes by cell, lower task, its position, higher task, its position.
-pub(crate) fn in_task_order(file: &[u8], budget: u32) -> bool {
-    let mut named = [0u16; 32768];
-    let mut last = 0;
-    for i in 0..named_list(file, budget, &mut named) {
-        let next = key(&named, i);
-        if next <= last {
-            return false;
-        }
-        last = next;
-    }
-    true
-}
-
-// One size for analysing and one for writing, and the order of the list.
-pub(crate) fn try_one(t: Tally, file: &[u8], budget: u32, way: u32) -> Tally {
-    let c = call::analysing(budget);
-    let need = call::needed(c, file, b"");
-    let analysed = try_way(t, c, file, b"", need, way % 6);
-    let written = try_writing_way(analysed, file, way % 13);
-    count(written, in_task_order(file, budget), file)
-}
-
-// ---- jobs of plain accesses
+// Jobs of plain accesses: with its events named by task and position, the list of such a job is the same
+// in whatever order the job was recorded.
+use calls::call::TOGETHER;
+use calls::call::analysing;
+use calls::call::call_of;
+use calls::call::list_of;
+use calls::call::needed;
+use calls::lists::try_one;
+use calls::lists::try_same_list;
+use calls::tries::try_way;
+use rows::bytes::at_least_one;
+use rows::bytes::number;
+use rows::bytes::part_of;
+use rows::bytes::product;
+use rows::records::Draft;
+use rows::records::Shape;
+use rows::records::place;
+use rows::records::put_record;
+use rows::records::put_trailer;
+use rows::tally::Tally;
+use rows::tally::count;
+use rows::text::short;
+use rows::text::value;
 
 // Tasks with so many accesses each, and how the accesses go from cell to cell.
 pub(crate) struct Job {
@@ -144,7 +75,7 @@ fn put_job(file: &mut [u8], job: Job, order: u32) -> usize {
     let n = (product(job.tasks, job.each) % 65536) as u16;
     for e in 0..n {
         let t = turn_at(job, order, e);
-        make::put_record(file, make::place(0, e), access(job, t));
+        put_record(file, place(0, e), access(job, t));
     }
     let s = Shape {
         preamble: 0,
@@ -155,15 +86,7 @@ fn put_job(file: &mut [u8], job: Job, order: u32) -> usize {
         cells: job.cells,
         edition: 1,
     };
-    make::put_trailer(file, make::place(0, n), 0, n as u32, s)
-}
-
-// The lists of two recordings are the same once their events are named.
-fn same_named(one: &[u8], other: &[u8]) -> bool {
-    let mut a = [0u16; 32768];
-    let mut b = [0u16; 32768];
-    let pairs = named_list(one, 1, &mut a);
-    named_list(other, 1, &mut b) == pairs && same_numbers(&a, &b, 32768)
+    put_trailer(file, place(0, n), 0, n as u32, s)
 }
 
 // The job recorded in an order is accepted, and has the list that it has task by task; and both held
@@ -175,10 +98,10 @@ fn try_order(t: Tally, job: Job, order: u32) -> Tally {
     put_job(&mut bytes, job, order);
     let file = part_of(&bytes, 0, length);
     let one = part_of(&first, 0, length);
-    let same = refused_as(file, 0, 0) && same_named(one, file);
     let c = call_of(TOGETHER, 0, 0, 0);
-    let need = call::needed(c, one, file);
-    let held = try_way(count(t, same, file), c, one, file, need, order % 2 * 7);
+    let need = needed(c, one, file);
+    let same = try_same_list(t, one, file);
+    let held = try_way(same, c, one, file, need, order % 2 * 7);
     try_one(held, file, 1, 0)
 }
 
@@ -203,8 +126,7 @@ fn finds(job: Job, pairs: u32, falling: bool) -> bool {
     let mut list = [0u16; 24576];
     let length = put_job(&mut bytes, job, 3);
     let file = part_of(&bytes, 0, length);
-    call::list_of(call::analysing(1), file, b"", &mut list) == pairs
-        && counts_down(&list) == falling
+    list_of(analysing(1), file, b"", &mut list) == pairs && counts_down(&list) == falling
 }
 
 // `job TASKS EACH CELLS STEP [PAIRS FALLING]`: a job recorded in five orders; and how many pairs it

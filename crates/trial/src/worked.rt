@@ -1,52 +1,60 @@
 // Rows on single recordings: worked ones with answers written by hand, calls at the edge of a refusal,
 // and files at the ends of what a trailer may say.
-use crate::bytes::byte;
-use crate::bytes::fill_bytes;
-use crate::bytes::number;
-use crate::bytes::part_of;
-use crate::bytes::put_byte;
-use crate::call;
-use crate::call::ANALYSE;
-use crate::call::Call;
-use crate::call::Lent;
-use crate::call::REVERSED;
-use crate::call::TOGETHER;
-use crate::call::call_of;
-use crate::call::sized;
-use crate::make;
-use crate::make::Shape;
-use crate::ordered::try_one;
-use crate::printed;
-use crate::rows::digit;
-use crate::rows::find;
-use crate::rows::put_events;
-use crate::rows::put_levels;
-use crate::rows::put_recording;
-use crate::rows::section;
-use crate::rows::shape_of;
-use crate::rows::short;
-use crate::rows::value;
-use crate::rows::wide;
-use crate::rows::word;
-use crate::shown::refusal_of;
-use crate::shown::same_record;
-use crate::shown::try_pair;
-use crate::shown::try_sizes;
-use crate::tally::Tally;
-use crate::tally::count;
-use crate::tally::count_both;
-use crate::tries::ENDLESS;
-use crate::tries::refused_as;
-use crate::tries::try_analysing;
-use crate::tries::try_lent;
-use crate::tries::try_outcome;
-use crate::tries::try_questions;
-use crate::tries::try_reading;
-use crate::tries::try_ways;
-use crate::writing::output;
-use crate::writing::try_writing;
+use crate::recordings::put_events;
+use crate::recordings::put_levels;
+use crate::recordings::put_recording;
+use crate::recordings::shape_of;
+use calls::call::ANALYSE;
+use calls::call::Call;
+use calls::call::Lent;
+use calls::call::REVERSED;
+use calls::call::TOGETHER;
+use calls::call::WAYS;
+use calls::call::analysing;
+use calls::call::answer;
+use calls::call::call_of;
+use calls::call::length_of;
+use calls::call::needed;
+use calls::call::writing;
+use calls::lists::try_one;
+use calls::printed::try_printing;
+use calls::printed::try_text;
+use calls::shown::try_pair;
+use calls::shown::try_sizes;
+use calls::tries::ENDLESS;
+use calls::tries::try_analysing;
+use calls::tries::try_answer;
+use calls::tries::try_lent;
+use calls::tries::try_questions;
+use calls::tries::try_reading;
+use calls::tries::try_refusal;
+use calls::tries::try_refused;
+use calls::tries::try_sized;
+use calls::tries::try_ways;
+use calls::writing::output;
+use calls::writing::try_writing;
 use model::Counts;
-use second::Told;
+use rows::bytes::byte;
+use rows::bytes::fill_bytes;
+use rows::bytes::number;
+use rows::bytes::part_of;
+use rows::bytes::put_byte;
+use rows::bytes::same_bytes;
+use rows::records::Shape;
+use rows::records::field_of;
+use rows::records::mark_preamble;
+use rows::records::put_trailer;
+use rows::records::record_at;
+use rows::tally::Tally;
+use rows::tally::count;
+use rows::tally::count_both;
+use rows::text::digit;
+use rows::text::find;
+use rows::text::section;
+use rows::text::short;
+use rows::text::value;
+use rows::text::wide;
+use rows::text::word;
 use std::num::wrapping_add_usize;
 
 // ---- answers
@@ -61,37 +69,32 @@ fn same_digits(list: &[u16], text: &[u8]) -> bool {
     true
 }
 
-// `refused NUMBER RECORD TASK POSITION`: what a call answers, 0 for each that is left out.
-fn is_refused(o: Told, s: &[u8]) -> bool {
-    (o.refusal == short(s, 1))
-        & (o.record == short(s, 2))
-        & (o.task == short(s, 3))
-        & (o.position == short(s, 4))
+// A digit for each number of a list, '-' for none.
+fn entries_of(w: &[u8]) -> &[u8] {
+    if byte(w, 0) == b'-' {
+        return part_of(w, 0, 0);
+    }
+    w
 }
 
-// `lists PASSES ENTRIES`, a digit for each number and '-' for none: the library makes so many passes,
-// settles unless it makes none, which is then its whole budget, and lists these entries. Or `refused
-// ..`.
-fn answers(file: &[u8], s: &[u8]) -> bool {
+// `lists PASSES ENTRIES`: the library makes so many passes, settles unless it makes none, which is then
+// its whole budget, and lists these entries. Or `refused NUMBER RECORD`.
+fn try_listed(t: Tally, file: &[u8], s: &[u8]) -> Tally {
     let mut list = [0u16; 64];
     let mut out = [0u8; 1];
-    let passes = wide(s, 1);
-    let w = word(s, 2);
-    let entries = if byte(w, 0) == b'-' {
-        part_of(w, 0, 0)
-    } else {
-        w
-    };
-    let budget = if passes == 0 { 0 } else { ENDLESS };
-    let o = call::answer(call::analysing(budget), file, b"", &mut list, &mut out);
     if byte(word(s, 0), 0) == b'r' {
-        return refused_as(file, short(s, 1), short(s, 2));
+        return try_refused(t, file, short(s, 1), short(s, 2));
     }
-    o.refusal == 0
+    let passes = wide(s, 1);
+    let entries = entries_of(word(s, 2));
+    let budget = if passes == 0 { 0 } else { ENDLESS };
+    let o = answer(analysing(budget), file, b"", &mut list, &mut out);
+    let listed = o.refusal == 0
         && o.passes == passes
         && o.settled == (passes != 0)
         && o.pairs as usize == entries.len() / 3
-        && same_digits(&list, entries)
+        && same_digits(&list, entries);
+    count(t, listed, file)
 }
 
 // ---- whole recordings
@@ -110,18 +113,14 @@ pub(crate) fn try_recording(t: Tally, row: &[u8], whole: bool) -> Tally {
     let mut bytes = [0u8; 4400];
     let length = put_recording(row, 1, &mut bytes);
     let file = part_of(&bytes, 0, length);
-    let answered = count(t, answers(file, section(row, 4)), file);
+    let answered = try_listed(t, file, section(row, 4));
     let read = try_reading(answered, file);
     if !whole {
         return try_one(read, file, ENDLESS, (length % 65536) as u32 / 4);
     }
     let most = try_analysing(try_budgets(read, file), file, ENDLESS);
     let asked = try_questions(most, file, ENDLESS, b"-===");
-    count(
-        try_writing(asked, file),
-        printed::printing_agrees(file),
-        file,
-    )
+    try_printing(try_writing(asked, file), file)
 }
 
 // Puts a text whose lines end in ';', from its second byte to the last ';'; its length.
@@ -142,48 +141,10 @@ pub(crate) fn try_prints(t: Tally, row: &[u8]) -> Tally {
     let length = put_recording(row, 1, &mut bytes);
     let n = put_text(&mut text, section(row, 4));
     let file = part_of(&bytes, 0, length);
-    count(t, printed::prints(file, part_of(&text, 0, n)), file)
+    try_text(t, file, part_of(&text, 0, n))
 }
 
 // ---- calls
-
-// A call that answers so, with each of the lent sizes that are named.
-fn try_sized(
-    t: Tally,
-    c: Call,
-    one: &[u8],
-    two: &[u8],
-    three: &[u8],
-    need: Lent,
-    sizes: &[u8],
-    answer: &[u8],
-) -> Tally {
-    let mut next = t;
-    for k in 0..8u16 {
-        let letters = word(sizes, k);
-        if letters.len() == 0 {
-            return next;
-        }
-        next = try_answer(next, c, one, two, three, sized(need, letters), answer);
-    }
-    next
-}
-
-// A call that answers so, with these lengths of lent memory.
-fn try_answer(
-    t: Tally,
-    c: Call,
-    one: &[u8],
-    two: &[u8],
-    three: &[u8],
-    l: Lent,
-    answer: &[u8],
-) -> Tally {
-    let mut out = [0u8; 8192];
-    let o = call::compare(c, one, two, three, l, &mut out);
-    let told = count_both(t, is_refused(o.told, answer), one, two);
-    try_outcome(told, c, one, two, three, o, &out)
-}
 
 // `analyse BUDGET | COUNTS | LEVELS | EVENTS | SIZES | ANSWER`, and likewise `ask A B BUDGET` and
 // `reversed A B`.
@@ -194,7 +155,7 @@ pub(crate) fn try_call(t: Tally, row: &[u8], which: u8) -> Tally {
     let c = call_of(which, value(head, 1), value(head, 2), budget);
     let length = put_recording(row, 1, &mut bytes);
     let file = part_of(&bytes, 0, length);
-    let need = call::needed(c, file, b"");
+    let need = needed(c, file, b"");
     try_sized(t, c, file, b"", b"", need, section(row, 4), section(row, 5))
 }
 
@@ -203,7 +164,7 @@ fn counts_of(row: &[u8]) -> Counts {
     let s = shape_of(section(row, 1));
     Counts {
         tasks: s.tasks,
-        semaphores: make::field_of(s),
+        semaphores: field_of(s),
         cells: s.cells,
         edition: s.edition,
     }
@@ -228,8 +189,8 @@ pub(crate) fn try_write(t: Tally, row: &[u8]) -> Tally {
     let records = part_of(&bytes, 0, if cut < end { end - cut } else { 0 });
     let one = part_of(&starts, 0, n);
     let two = part_of(&posts, 0, m);
-    let c = call::writing(counts_of(row));
-    let need = call::length_of(records, one, two);
+    let c = writing(counts_of(row));
+    let need = length_of(records, one, two);
     if section(row, 4).len() == 0 {
         return try_outputs(t, c, records, one, two, need);
     }
@@ -276,7 +237,7 @@ fn try_lend(t: Tally, c: Call, n: usize, m: usize, answer: &[u8]) -> Tally {
 // bytes.
 pub(crate) fn try_lent_levels(t: Tally, row: &[u8]) -> Tally {
     let head = section(row, 0);
-    let c = call::writing(counts_of(row));
+    let c = writing(counts_of(row));
     try_lend(t, c, value(head, 1), value(head, 2), section(row, 2))
 }
 
@@ -284,7 +245,7 @@ pub(crate) fn try_lent_levels(t: Tally, row: &[u8]) -> Tally {
 // `posts`: of post bytes.
 pub(crate) fn try_numbers(t: Tally, row: &[u8], posts: bool) -> Tally {
     let head = section(row, 0);
-    let c = call::writing(counts_of(row));
+    let c = writing(counts_of(row));
     let n = value(head, 1);
     let m = value(head, 2);
     let mut next = t;
@@ -305,7 +266,9 @@ pub(crate) fn try_numbers(t: Tally, row: &[u8], posts: bool) -> Tally {
 // The library writes the file's records in this order, a digit for each, or refuses the pair so.
 fn shows_as(file: &[u8], x: usize, y: usize, s: &[u8]) -> bool {
     let mut shown = [0u8; 400];
-    let refusal = refusal_of(call_of(REVERSED, x, y, 0), file, &mut shown);
+    let mut list = [0u16; 1];
+    let c = call_of(REVERSED, x, y, 0);
+    let refusal = answer(c, file, b"", &mut list, &mut shown).refusal;
     let order = word(s, 0);
     if byte(order, 0) == b'r' {
         return refusal == short(s, 1);
@@ -313,7 +276,10 @@ fn shows_as(file: &[u8], x: usize, y: usize, s: &[u8]) -> bool {
     let records = recording::records(file);
     let n = (order.len() % 16) as u16;
     for i in 0..n {
-        if !same_record(records, digit(order, i as usize) as u16, &shown, i) {
+        if !same_bytes(
+            record_at(records, digit(order, i as usize) as u16),
+            record_at(&shown, i),
+        ) {
             return false;
         }
     }
@@ -357,21 +323,19 @@ fn try_rooms(t: Tally, c: Call, one: &[u8], two: &[u8], need: Lent) -> Tally {
     next
 }
 
-// `pairs ENTRIES`, a digit for each number and '-' for none; or `refused ..`.
-fn both_answer(c: Call, one: &[u8], two: &[u8], s: &[u8]) -> bool {
+// `pairs ENTRIES`, or `refused ..`.
+fn try_joint(t: Tally, c: Call, one: &[u8], two: &[u8], s: &[u8]) -> Tally {
     let mut list = [0u16; 64];
     let mut out = [0u8; 1];
-    let o = call::answer(c, one, two, &mut list, &mut out);
+    let o = answer(c, one, two, &mut list, &mut out);
     if byte(word(s, 0), 0) == b'r' {
-        return is_refused(o, s);
+        return try_refusal(t, o, s, one, two);
     }
-    let w = word(s, 1);
-    let entries = if byte(w, 0) == b'-' {
-        part_of(w, 0, 0)
-    } else {
-        w
-    };
-    o.refusal == 0 && o.pairs as usize == entries.len() / 5 && same_digits(&list, entries)
+    let entries = entries_of(word(s, 1));
+    let listed = o.refusal == 0
+        && o.pairs as usize == entries.len() / 5
+        && same_digits(&list, entries);
+    count_both(t, listed, one, two)
 }
 
 // `both | COUNTS | LEVELS | EVENTS | COUNTS | LEVELS | EVENTS | ANSWER`: two files, in every size of
@@ -384,15 +348,9 @@ pub(crate) fn try_both(t: Tally, row: &[u8]) -> Tally {
     let one = part_of(&a, 0, n);
     let two = part_of(&b, 0, m);
     let c = call_of(TOGETHER, 0, 0, 0);
-    let answered = count_both(t, both_answer(c, one, two, section(row, 7)), one, two);
-    let need = call::needed(c, one, two);
-    try_ways(
-        try_rooms(answered, c, one, two, need),
-        c,
-        one,
-        two,
-        call::WAYS,
-    )
+    let answered = try_joint(t, c, one, two, section(row, 7));
+    let need = needed(c, one, two);
+    try_ways(try_rooms(answered, c, one, two, need), c, one, two, WAYS)
 }
 
 // ---- edges
@@ -424,16 +382,16 @@ fn put_edge(file: &mut [u8], length: usize, start: u32, records: u32, s: Shape) 
         return;
     }
     let from = start as usize;
-    make::mark_preamble(file, from);
+    mark_preamble(file, from);
     put_writes(file, from);
     put_threes(file, s.edition, from + records as usize * 4, length - 16);
-    make::put_trailer(file, length - 16, start, records, s);
+    put_trailer(file, length - 16, start, records, s);
 }
 
 // Writing the bytes between preamble and trailer with these counts, in range or not: all as records,
 // and the first of them as records and the others as level bytes.
 fn try_between(t: Tally, between: &[u8], size: usize, c: Counts) -> Tally {
-    let call = call::writing(c);
+    let call = writing(c);
     let all = between.len();
     let whole = try_lent(t, call, between, b"", b"", output(8192));
     let low = wrapping_add_usize(size, c.semaphores as usize % 256);
@@ -469,7 +427,7 @@ pub(crate) fn try_edge(t: Tally, row: &[u8]) -> Tally {
         shape_of(section(row, 1)),
     );
     let file = part_of(&bytes, 0, length);
-    let refused = count(t, refused_as(file, short(section(row, 2), 1), 0), file);
+    let refused = try_refused(t, file, short(section(row, 2), 1), 0);
     let end = if length < 16 { 0 } else { length - 16 };
     let between = part_of(file, start as usize, end);
     let written = try_between(refused, between, records as usize * 4, counts_of(row));

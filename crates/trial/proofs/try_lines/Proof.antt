@@ -1,15 +1,14 @@
 -- `trial::try_lines` is safe and ends. Nothing has to hold from turn to turn. The measure is what is left of the range. Assumes nothing.
 use Prim.Native.Nat.{_-_}
 use native.Mathlib.Omega.{arith}
-use borrow.Author.Needs.{needs}
 use Rattle.trial.proofs.try_lines.Statement.{statement}
 use Rattle.trial.proofs.try_lines.Tie as tie
 
 abbrev Inv-loop : tie.InvT-loop
-Inv-loop text p₀ i₀ t5 i-end p i = Unit {0}
+Inv-loop text p₀ i₀ i-end p i = Unit {0}
 
 abbrev μ-loop : tie.MeasureT-loop
-μ-loop text p₀ i₀ t5 i-end p i = i-end - i
+μ-loop text p₀ i₀ i-end p i = i-end - i
 
 pub try-lines-spec : {M : Type 1} → statement M
 try-lines-spec =
@@ -24,8 +23,6 @@ try-lines-spec =
     (λ c. omega arith)
     (λ c. omega arith)
     (λ c. tt)
-    (λ c κs. tt)
-    (λ c. search needs)
     (λ c κs. tt)
     (λ c κs. tt)
     (λ c. tt))

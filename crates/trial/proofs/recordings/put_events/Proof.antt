@@ -1,0 +1,30 @@
+-- `trial::recordings::put_events` is safe and ends. Lengths are kept. The measure is what is left of the range. Assumes nothing.
+use mathlib.Core.Path.{_≡_}
+use lib.ListN.{length}
+use Prim.Native.Nat.{_-_}
+use native.Mathlib.Omega.{arith}
+use Rattle.trial.proofs.recordings.put_events.Statement.{statement}
+use Rattle.trial.proofs.recordings.put_events.Tie as tie
+
+abbrev Inv-loop : tie.InvT-loop
+Inv-loop file₀ s at₀ k₀ file at k = length file ≡ length file₀
+
+abbrev μ-loop : tie.MeasureT-loop
+μ-loop file₀ s at₀ k₀ file at k = 99 - k
+
+pub put-events-spec : {M : Type 1} → statement M
+put-events-spec =
+    tie.close
+    (tie.spec
+    Inv-loop
+    μ-loop
+    (λ c. omega arith)
+    (λ c κs. tt)
+    (λ c. omega arith)
+    (λ c. tt)
+    (λ c κs. tt)
+    (λ c. omega arith)
+    (λ c. omega arith)
+    (λ c. omega arith)
+    (λ c. omega arith)
+    (λ c. tt))
