@@ -1,4 +1,4 @@
--- `rows::bytes::put_bytes` is safe and ends. Lengths are kept. The measure is what is left of the range. Assumes nothing.
+-- `rows::bytes::put_bytes` meets its contract. Lengths are kept. The measure is what is left of the range. Assumes nothing.
 use mathlib.Core.Path.{_≡_}
 use lib.ListN.{length}
 use Prim.Native.Nat.{_-_}

@@ -1,4 +1,4 @@
--- `rows::bytes::same_output` meets its contract. Nothing has to hold from turn to turn. The measure is what is left of the range. Assumes nothing.
+-- `rows::bytes::same_output` meets its contract. Past the first test both are as long. The measure is what is left of the range. Assumes nothing.
 use Prim.Native.Nat.{_-_}
 use mathlib.Core.Bool.{false≢true}
 use native.Mathlib.Omega.{arith}

@@ -1,4 +1,4 @@
--- `rows::text::value` is safe and ends. Nothing has to hold from turn to turn. The measure is what is left of the range. Assumes nothing.
+-- `rows::text::value` meets its contract. Before the first digit the number is 0, and a word without a byte has none. The measure is what is left of the range. Assumes nothing.
 use mathlib.Core.Path.{_≡_}
 use lib.ListN.{length}
 use Prim.Native.Nat.{_-_, _≤_}

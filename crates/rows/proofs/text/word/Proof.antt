@@ -1,4 +1,4 @@
--- `rows::text::word` is safe and ends. Nothing has to hold from turn to turn. The measure is what is left of the range. Assumes nothing.
+-- `rows::text::word` meets its contract. Nothing has to hold from turn to turn. The measure is what is left of the range. Assumes nothing.
 use Prim.Native.Nat.{_-_}
 use native.Mathlib.Omega.{arith}
 use Rattle.rows.proofs.text.word.Statement.{statement}
