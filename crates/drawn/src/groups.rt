@@ -135,15 +135,20 @@ fn changed(value: u8, how: usize) -> u8 {
     }
 }
 
-// Every byte of a file changed in each way, and then put back.
+// A byte of a file changed in one of the ways, and then put back.
+fn try_changed(t: Tally, file: &mut [u8], i: usize, how: usize, way: u32) -> Tally {
+    let value = byte(file, i);
+    put_byte(file, i, changed(value, how));
+    let next = try_one(try_reading(t, file), file, 3, way);
+    put_byte(file, i, value);
+    next
+}
+
+// Every byte of a file changed in each way.
 fn try_bytes(t: Tally, file: &mut [u8]) -> Tally {
     let mut next = t;
     for k in 0..(file.len() % 65536) as u32 * 4 {
-        let i = (k / 4) as usize;
-        let value = byte(file, i);
-        put_byte(file, i, changed(value, k as usize % 4));
-        next = try_one(try_reading(next, file), file, 3, k / 4);
-        put_byte(file, i, value);
+        next = try_changed(next, file, (k / 4) as usize, k as usize % 4, k / 4);
     }
     next
 }

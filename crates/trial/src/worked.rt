@@ -55,6 +55,7 @@ use rows::text::short;
 use rows::text::value;
 use rows::text::wide;
 use rows::text::word;
+use second::Told;
 use std::num::wrapping_add_usize;
 
 // ---- answers
@@ -77,6 +78,16 @@ fn entries_of(w: &[u8]) -> &[u8] {
     w
 }
 
+// The answer of a call that makes so many passes, settled unless there are none, and lists so many pairs
+// in these entries.
+fn is_listed(o: Told, passes: u32, pairs: usize, entries: &[u8], list: &[u16]) -> bool {
+    (o.refusal == 0)
+        & (o.passes == passes)
+        & (o.settled == (passes != 0))
+        & (o.pairs as usize == pairs)
+        & same_digits(list, entries)
+}
+
 // `lists PASSES ENTRIES`: the library makes so many passes, settles unless it makes none, which is then
 // its whole budget, and lists these entries. Or `refused NUMBER RECORD`.
 fn try_listed(t: Tally, file: &[u8], s: &[u8]) -> Tally {
@@ -86,15 +97,14 @@ fn try_listed(t: Tally, file: &[u8], s: &[u8]) -> Tally {
         return try_refused(t, file, short(s, 1), short(s, 2));
     }
     let passes = wide(s, 1);
-    let entries = entries_of(word(s, 2));
     let budget = if passes == 0 { 0 } else { ENDLESS };
     let o = answer(analysing(budget), file, b"", &mut list, &mut out);
-    let listed = o.refusal == 0
-        && o.passes == passes
-        && o.settled == (passes != 0)
-        && o.pairs as usize == entries.len() / 3
-        && same_digits(&list, entries);
-    count(t, listed, file)
+    let entries = entries_of(word(s, 2));
+    count(
+        t,
+        is_listed(o, passes, entries.len() / 3, entries, &list),
+        file,
+    )
 }
 
 // ---- whole recordings
@@ -170,8 +180,29 @@ fn counts_of(row: &[u8]) -> Counts {
     }
 }
 
+// Writing records, start bytes and post bytes with the row's counts. With no sizes, each length of the
+// output up to some more than is needed: 12, or none.
+fn try_written(t: Tally, row: &[u8], records: &[u8], starts: &[u8], posts: &[u8]) -> Tally {
+    let c = writing(counts_of(row));
+    let need = length_of(records, starts, posts);
+    let sizes = section(row, 4);
+    if sizes.len() == 0 {
+        return try_outputs(t, c, records, starts, posts, need);
+    }
+    try_sized(
+        t,
+        c,
+        records,
+        starts,
+        posts,
+        output(need),
+        sizes,
+        section(row, 5),
+    )
+}
+
 // `write CUT | COUNTS | STARTS / POSTS | EVENTS | SIZES | ANSWER`: writing with so many record bytes
-// less. With no sizes, each length of the output up to some more than is needed: 12, or none.
+// less.
 pub(crate) fn try_write(t: Tally, row: &[u8]) -> Tally {
     let mut bytes = [0u8; 400];
     let mut starts = [0u8; 80];
@@ -180,29 +211,15 @@ pub(crate) fn try_write(t: Tally, row: &[u8]) -> Tally {
     let end = put_events(&mut bytes, section(row, 3));
     let levels = section(row, 2);
     let bar = find(levels, 0, b'/');
+    let behind = part_of(levels, wrapping_add_usize(bar, 1), levels.len());
     let n = put_levels(&mut starts, 0, part_of(levels, 0, bar));
-    let m = put_levels(
-        &mut posts,
-        0,
-        part_of(levels, wrapping_add_usize(bar, 1), levels.len()),
-    );
-    let records = part_of(&bytes, 0, if cut < end { end - cut } else { 0 });
-    let one = part_of(&starts, 0, n);
-    let two = part_of(&posts, 0, m);
-    let c = writing(counts_of(row));
-    let need = length_of(records, one, two);
-    if section(row, 4).len() == 0 {
-        return try_outputs(t, c, records, one, two, need);
-    }
-    try_sized(
+    let m = put_levels(&mut posts, 0, behind);
+    try_written(
         t,
-        c,
-        records,
-        one,
-        two,
-        output(need),
-        section(row, 4),
-        section(row, 5),
+        row,
+        part_of(&bytes, 0, if cut < end { end - cut } else { 0 }),
+        part_of(&starts, 0, n),
+        part_of(&posts, 0, m),
     )
 }
 
@@ -332,9 +349,7 @@ fn try_joint(t: Tally, c: Call, one: &[u8], two: &[u8], s: &[u8]) -> Tally {
         return try_refusal(t, o, s, one, two);
     }
     let entries = entries_of(word(s, 1));
-    let listed = o.refusal == 0
-        && o.pairs as usize == entries.len() / 5
-        && same_digits(&list, entries);
+    let listed = is_listed(o, 0, entries.len() / 5, entries, &list);
     count_both(t, listed, one, two)
 }
 
