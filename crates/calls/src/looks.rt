@@ -46,8 +46,8 @@ pub fn try_same_last(t: Tally, part: &[u8], records: &[u8], task: u16) -> Tally
 {
     let before = look(part, task);
     let whole = look(records, task);
-    let same = before.found == whole.found && before.record == whole.record;
-    count(t, agrees(part, task) && same, records)
+    let kept = before.found == whole.found && before.record == whole.record;
+    count(t, agrees(part, task) && kept, records)
 }
 
 // Both answer these numbers: how many records were read, and the hit, where there is one.

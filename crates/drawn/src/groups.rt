@@ -30,7 +30,6 @@ use rows::tally::Tally;
 use rows::tally::count;
 use rows::text::section;
 use rows::text::short;
-use rows::text::value;
 use rows::text::wide;
 
 // What is tried of each recording, by the place of the row's kind among those of a group.

@@ -32,7 +32,6 @@ use rows::records::put_record;
 use rows::records::put_trailer;
 use rows::tally::Tally;
 use rows::tally::count_both;
-use rows::text::value;
 use second::Told;
 use std::num::wrapping_add_u32;
 use std::num::wrapping_add_usize;

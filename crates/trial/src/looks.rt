@@ -10,6 +10,7 @@ use rows::text::short;
 use rows::text::value;
 use second::Look;
 
+// What a look answers: whether there is a hit, its record, and how many records were read.
 fn hit(found: bool, record: usize, read: usize) -> Look {
     Look {
         found,
