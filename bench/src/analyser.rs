@@ -13,6 +13,22 @@ pub enum Kind {
     Write,
     Post,
     FlagWait,
+    SingleRead,
+    SingleWrite,
+}
+
+impl Kind {
+    fn is_write(self) -> bool {
+        matches!(self, Kind::Write | Kind::SingleWrite)
+    }
+
+    fn is_single(self) -> bool {
+        matches!(self, Kind::SingleRead | Kind::SingleWrite)
+    }
+
+    fn is_access(self) -> bool {
+        self.is_single() || matches!(self, Kind::Read | Kind::Write)
+    }
 }
 
 /// A refusal, with the faulty record or the pairs needed.
@@ -146,6 +162,8 @@ impl Trailer {
             6 => Kind::Write,
             7 if self.edition == 3 => Kind::Post,
             8 if self.edition == 3 => Kind::FlagWait,
+            9 if self.edition == 3 => Kind::SingleRead,
+            10 if self.edition == 3 => Kind::SingleWrite,
             _ => return None,
         };
         Some(kind)
@@ -156,7 +174,7 @@ impl Trailer {
         match kind {
             Kind::Signal | Kind::Wait => self.semaphores,
             Kind::Fork | Kind::Join => self.tasks,
-            Kind::Read | Kind::Write => self.cells,
+            Kind::Read | Kind::Write | Kind::SingleRead | Kind::SingleWrite => self.cells,
             Kind::Post | Kind::FlagWait => self.flags,
         }
     }
@@ -219,7 +237,8 @@ impl Rules {
             Kind::Post => self.missing[x] = self.missing[x].saturating_sub(1),
             Kind::Fork => self.forked[x] = true,
             Kind::Join => self.joined[x] = true,
-            Kind::FlagWait | Kind::Read | Kind::Write => {}
+            Kind::FlagWait => {}
+            Kind::Read | Kind::Write | Kind::SingleRead | Kind::SingleWrite => {}
         }
         self.seen[event.task] = true;
         Ok(())
@@ -507,13 +526,14 @@ impl Lister<'_> {
     /// Whether two accesses to one cell conflict.
     fn conflict(&self, a: usize, b: usize) -> bool {
         let (x, y) = (self.recording.events[a], self.recording.events[b]);
-        x.task != y.task && (x.kind == Kind::Write || y.kind == Kind::Write)
+        let writes = x.kind.is_write() || y.kind.is_write();
+        x.task != y.task && writes && !(x.kind.is_single() && y.kind.is_single())
     }
 
     /// The accesses by cell, then task, then position.
     fn accesses(&self) -> Vec<usize> {
         let events = &self.recording.events;
-        let is_access = |&e: &usize| matches!(events[e].kind, Kind::Read | Kind::Write);
+        let is_access = |&e: &usize| events[e].kind.is_access();
         let mut accesses: Vec<usize> = (0..events.len()).filter(is_access).collect();
         accesses.sort_unstable_by_key(|&e| (events[e].object, events[e].task, e));
         accesses

@@ -8,6 +8,8 @@ pub const READ: u8 = 5;
 pub const WRITE: u8 = 6;
 pub const POST: u8 = 7;
 pub const FLAG_WAIT: u8 = 8;
+pub const SINGLE_READ: u8 = 9;
+pub const SINGLE_WRITE: u8 = 10;
 
 /// A small fixed pseudo-random generator (splitmix64).
 pub struct Random(pub u64);
@@ -198,7 +200,7 @@ pub fn timed() -> Vec<(&'static str, Recording)> {
         ("mixed, 1,024 cells", mixed(5, 1024, 16, 8, 6, 1024)),
         ("1,024 accesses", accesses()),
         ("512 posts, 512 flag waits", flags()),
-        ("16 events, mixed", mixed(328, 16, 4, 2, 1, 2)),
+        ("16 events, mixed", mixed(1394, 16, 4, 2, 1, 2)),
         ("no events", Recording::new(16, 0, 0)),
     ]
 }
@@ -248,8 +250,11 @@ impl Maker {
 
     fn step(&mut self) {
         let task = self.random.below(self.forked.len());
+        let single = self.recording.edition == 3;
         let kind = match self.random.below(100) {
+            0..5 if single => SINGLE_WRITE,
             0..15 => WRITE,
+            15..23 if single => SINGLE_READ,
             15..40 => READ,
             40..58 => SIGNAL,
             58..73 => WAIT,
@@ -261,7 +266,7 @@ impl Maker {
         let names = match kind {
             SIGNAL | WAIT => self.level.len(),
             POST | FLAG_WAIT => self.posted.len(),
-            READ | WRITE => self.recording.cells as usize,
+            READ | WRITE | SINGLE_READ | SINGLE_WRITE => self.recording.cells as usize,
             _ => self.forked.len(),
         };
         if names == 0 || !self.alive(task) {
@@ -350,7 +355,7 @@ fn damage_record(r: &mut Recording, random: &mut Random) {
     if n > 0 {
         r.records[random.below(n)] = Record {
             task: random.below(r.tasks as usize + 1) as u8,
-            kind: random.below(10) as u8,
+            kind: random.below(12) as u8,
             object: random.below(5) as u16,
         };
     }

@@ -47,7 +47,9 @@ enum {
     FENNROLKA_KIND_READ = 5,
     FENNROLKA_KIND_WRITE = 6,
     FENNROLKA_KIND_POST = 7,
-    FENNROLKA_KIND_FLAG_WAIT = 8
+    FENNROLKA_KIND_FLAG_WAIT = 8,
+    FENNROLKA_KIND_SINGLE_READ = 9,  /* a read and a write by the processor's own */
+    FENNROLKA_KIND_SINGLE_WRITE = 10 /* single-instruction access */
 };
 
 /* What fennrolka_read tells. */

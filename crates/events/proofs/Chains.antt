@@ -1,6 +1,6 @@
 -- Laws of the chains: how they start and go on by one place, that they go by the test alone, and what slots hold. Assumes nothing.
 use mathlib.Core.Path.{_≡_, refl, sym, ap, ap₂, subst, _∙_}
-use mathlib.Core.Bool.{Bool, true, false, _&&_, _||_, true≢false}
+use mathlib.Core.Bool.{Bool, true, false, not, _&&_, _||_, true≢false}
 use mathlib.Core.Logic.{⊎-elim}
 use mathlib.Core.List.{List, [], _∷_}
 use Prim.Native.Nat.{ℕ, _+_, _*_, _/_, _%_, _≤_, _<_, zero-le}
@@ -12,8 +12,9 @@ use Rattle.model.specs.declared.Event.{Event}
 use Rattle.model.specs.Recording.{eventIn, isOn, signal, wait, post}
 use Rattle.model.specs.File.{eventsOf}
 use Rattle.model.specs.Reading.{mostSemaphores, mostFlags}
-use Rattle.model.proofs.Tests.{cases, tests, clash, fails, both, first, second, either, all-three, leb-true, leb-false, ltb-true, ltb-false, eqb-true, le-leb, eq-eqb}
-use Rattle.events.specs.Chains.{isAmong, Nearest, head, putFirst, leftOut, linked, Chained, Chain, slots, slotOf, onAt, Gathered}
+use Rattle.model.specs.Pairs.{isAccess, isAccessOf}
+use Rattle.model.proofs.Tests.{cases, tests, clash, fails, of-not, to-not, both, first, second, either, leb-true, leb-false, ltb-true, eqb-true, eq-eqb}
+use Rattle.events.specs.Chains.{Nearest, head, putFirst, leftOut, linked, Chained, Chain, slots, slotOf, onAt, Gathered}
 use Rattle.events.proofs.Laws.{events-length}
 
 -- over no event yet
@@ -99,50 +100,34 @@ chain-of p n k chain c x l q h =
       next = λ a m t. nearest-by (p x) q n (a + 1) _ h (c .links a x zero-le m l (h a ∙ t));
     }
 
-pub chained-by : (p q : ℕ → ℕ → Bool) (n k e : ℕ) (chain : List ℕ) → ((x i : ℕ) → p x i ≡ q x i) → Chained p n k e chain → Chained q n k e chain
-chained-by p q n k e chain h c =
-    record {
-      wide = c .wide;
-      heads = λ x l. nearest-by (p x) (q x) n e _ (h x) (c .heads x l);
-      links = λ a x l m o t. nearest-by (p x) (q x) n (a + 1) _ (h x) (c .links a x l m o (h x a ∙ t));
-    }
-
--- ---- the test of the code: of the kinds lo to hi, on an object below k
+-- ---- the test of the code: an access of a cell below k
 
 pub or-none : (a b : Bool) → (a || b) ≡ false → (a ≡ false) × (b ≡ false)
 or-none true b h = absurd (true≢false h)
 or-none false b h = (refl, h)
 
-module _ (lo hi k : ℕ) (v : Event) where
-  outside : leftOut lo hi k v ≡ true → (x : ℕ) → x < k → isAmong lo hi x v ≡ false
+module _ (k : ℕ) (v : Event) where
+  outside : leftOut k v ≡ true → (x : ℕ) → x < k → isAccessOf x v ≡ false
   outside h x l =
-      fails (isAmong lo hi x v) λ t.
-      let q = all-three (leb lo (v .kind)) (leb (v .kind) hi) (eqb (v .object) x) t in
-      let a = leb-true lo (v .kind) (q .0) in
-      let b = leb-true (v .kind) hi (q .1) in
-      let d = eqb-true (v .object) x (q .2) in
-      ⊎-elim
-      (λ u. ⊎-elim (λ w. let z = ltb-true (v .kind) lo w in omega arith) (λ w. let z = ltb-true hi (v .kind) w in omega arith) (either (ltb (v .kind) lo) (ltb hi (v .kind)) u))
-      (λ u. let z = leb-true k (v .object) u in omega arith)
-      (either (ltb (v .kind) lo || ltb hi (v .kind)) (leb k (v .object)) h)
+      fails (isAccessOf x v) λ t.
+      ⊎-elim (λ u. clash (first (isAccess v) (eqb (v .object) x) t) (of-not (isAccess v) u))
+      (λ u. let z = leb-true k (v .object) u in let d = eqb-true (v .object) x (second (isAccess v) (eqb (v .object) x) t) in omega arith)
+      (either (not (isAccess v)) (leb k (v .object)) h)
 
-  pub within : leftOut lo hi k v ≡ false → (v .object < k) × (isAmong lo hi (v .object) v ≡ true)
+  pub within : leftOut k v ≡ false → (v .object < k) × (isAccessOf (v .object) v ≡ true)
   within h =
-      let q = or-none (ltb (v .kind) lo || ltb hi (v .kind)) (leb k (v .object)) h in
-      let r = or-none (ltb (v .kind) lo) (ltb hi (v .kind)) (q .0) in (
-        leb-false k (v .object) (q .1),
-        both (both (le-leb lo (v .kind) (ltb-false (v .kind) lo (r .0))) (le-leb (v .kind) hi (ltb-false hi (v .kind) (r .1)))) (eq-eqb (v .object) (v .object) refl),
-      )
+      let (a, b) = or-none (not (isAccess v)) (leb k (v .object)) h in
+      (leb-false k (v .object) b, both (cases (isAccess v) (λ t. t) (λ t. clash (to-not t) a)) (eq-eqb (v .object) (v .object) refl))
 
-  alone : (x : ℕ) → isAmong lo hi x v ≡ true → x ≡ v .object
-  alone x t = sym (eqb-true (v .object) x (second (leb lo (v .kind) && leb (v .kind) hi) (eqb (v .object) x) t))
+  alone : (x : ℕ) → isAccessOf x v ≡ true → x ≡ v .object
+  alone x t = sym (eqb-true (v .object) x (second (isAccess v) (eqb (v .object) x) t))
 
   -- one place more, that of the event v
-  pub linked-next : (p : ℕ → ℕ → Bool) (n e : ℕ) (chain : List ℕ) → Chained p n k (e + 1) chain → ((x : ℕ) → p x e ≡ isAmong lo hi x v)
-      → k ≤ 1024 → n ≤ 1024 → e < n → Chained p n k e (linked lo hi k v e chain)
+  pub linked-next : (p : ℕ → ℕ → Bool) (n e : ℕ) (chain : List ℕ) → Chained p n k (e + 1) chain → ((x : ℕ) → p x e ≡ isAccessOf x v)
+      → k ≤ 1024 → n ≤ 1024 → e < n → Chained p n k e (linked k v e chain)
   unfolding linked
   linked-next p n e chain c same f g w =
-      cases (leftOut lo hi k v) (λ t. rw t (next-none p n k e chain c (λ x l. same x ∙ outside t x l)))
+      cases (leftOut k v) (λ t. rw t (next-none p n k e chain c (λ x l. same x ∙ outside t x l)))
       (λ t.
       let (l, h) = within t in
       rw t (next-put p n k e chain c (v .object) l f g w (same (v .object) ∙ h) (λ x q. alone x (sym (same x) ∙ q))))

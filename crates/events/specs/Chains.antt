@@ -3,7 +3,7 @@
 -- Assumes nothing.
 use Prim.Native.Nat.{ℕ, _+_, _≤_, _<_}
 use mathlib.Core.Path.{_≡_}
-use mathlib.Core.Bool.{Bool, true, false, cond, _&&_, _||_}
+use mathlib.Core.Bool.{Bool, true, false, cond, not, _&&_, _||_}
 use mathlib.Core.List.{List}
 use lib.Dec.{leb, ltb, eqb}
 use lib.ListN.{length, getD, set}
@@ -11,14 +11,11 @@ use Rattle.model.specs.declared.Event.{Event}
 use Rattle.model.specs.File.{eventsOf}
 use Rattle.model.specs.Recording.{eventIn, ofTask, isOn, signal, wait, post}
 use Rattle.model.specs.Reading.{mostSemaphores, mostFlags, mostEvents}
+use Rattle.model.specs.Pairs.{isAccess, isAccessOf}
 
--- an event of the kinds lo to hi on the object x
-abbrev pub isAmong : ℕ → ℕ → ℕ → Event → Bool
-isAmong lo hi x v = leb lo (v .kind) && leb (v .kind) hi && eqb (v .object) x
-
--- the event at place i of an order of the events of the record bytes s is one
-abbrev pub amongIn : List ℕ → List ℕ → ℕ → ℕ → ℕ → ℕ → Bool
-amongIn s order lo hi x i = isAmong lo hi x (eventIn (eventsOf s) (getD order i 0))
+-- the event at place i of an order of the events of the record bytes s is an access of cell x
+abbrev pub accessOf : List ℕ → List ℕ → ℕ → ℕ → Bool
+accessOf s order x i = isAccessOf x (eventIn (eventsOf s) (getD order i 0))
 
 -- event i of the record bytes s is of task t
 abbrev pub byTask : List ℕ → ℕ → ℕ → Bool
@@ -44,13 +41,13 @@ head x = 1024 + x
 abbrev pub putFirst : ℕ → ℕ → List ℕ → List ℕ
 putFirst x i chain = set (set chain i (getD chain (head x) 0)) (head x) i
 
--- the event v is of no kind from lo to hi, or its object is not below k
-abbrev pub leftOut : ℕ → ℕ → ℕ → Event → Bool
-leftOut lo hi k v = ltb (v .kind) lo || ltb hi (v .kind) || leb k (v .object)
+-- the event v is no access, or its object is not below k
+abbrev pub leftOut : ℕ → Event → Bool
+leftOut k v = not (isAccess v) || leb k (v .object)
 
 -- place i, that of the event v, put first in the chain of its object, unless v is left out
-unfoldable pub linked : ℕ → ℕ → ℕ → Event → ℕ → List ℕ → List ℕ
-linked lo hi k v i chain = cond (leftOut lo hi k v) chain (putFirst (v .object) i chain)
+unfoldable pub linked : ℕ → Event → ℕ → List ℕ → List ℕ
+linked k v i chain = cond (leftOut k v) chain (putFirst (v .object) i chain)
 
 -- the running state, the chains of the objects below k over the places from e on, of n: at an object's place the nearest
 -- from e on, and at a place in a chain the nearest behind it

@@ -1,6 +1,6 @@
-// The records as lent bytes: an event's fields, searches over the first records, the look back over a part for a task's last
-// record, and what one look at all records keeps of each: positions, sources, chains of the events on one object, and the task
-// order. And the counts: semaphores and flags, and the level bytes, which are start counts and post counts.
+// The records as lent bytes: an event's fields and the tests of an access, searches over the first records, the look back over a
+// part for a task's last record, and what one look at all records keeps of each: positions, sources, chains of the events on one
+// object, and the task order. And the counts: semaphores and flags, and the level bytes, which are start counts and post counts.
 ghost use mathlib.Core.Path.{_≡_};
 ghost use Prim.Native.Nat.{_+_, _*_, _/_, _≤_, _<_};
 ghost use lib.Dec.{eqb};
@@ -12,8 +12,8 @@ ghost use Rattle.model.specs.File.{u16At, eventsOf, recordBytes, startCount, le
 ghost use Rattle.model.specs.Reading.{mostTasks, mostCells, mostEvents};
 ghost use Rattle.model.specs.Passes.{forkOf, lastEvent, beforeOrFork};
 ghost use Rattle.model.specs.LastEvent.{recordsRead, NoneAfterJoin};
-ghost use Rattle.model.specs.Pairs.{ownEvents, taskOrder};
-ghost use Rattle.events.specs.Chains.{amongIn, byTask, Along, putFirst, linked, Chained, slotOf, slots, head, Gathered};
+ghost use Rattle.model.specs.Pairs.{isRead, isWrite, isAccess, isSingle, ownEvents, taskOrder};
+ghost use Rattle.events.specs.Chains.{accessOf, byTask, Along, putFirst, linked, Chained, slotOf, slots, head, Gathered};
 ghost use Rattle.events.specs.Kept.{Positions, KeptTasks, Below, foundBelow, KeptForks, ofJoin, Sources, Tasked};
 use model::Counts;
 use model::Event;
@@ -24,10 +24,14 @@ use model::MOST_EVENTS;
 use model::MOST_FLAGS;
 use model::MOST_SEMAPHORES;
 use model::POST;
+use model::READ;
 use model::SIGNAL;
+use model::SINGLE_READ;
+use model::SINGLE_WRITE;
 use model::Trailer;
 use model::WAIT;
 use model::WITH_FLAGS;
+use model::WRITE;
 
 // The number of two bytes, little-endian.
 pub fn u16_at(s: &[u8], i: usize) -> u16
@@ -152,6 +156,34 @@ pub fn event_at(records: &[u8], e: usize) -> Event
         kind: records[at + 1],
         object: u16_at(records, at + 2),
     }
+}
+
+// Whether the event is a read, plain or by a single instruction.
+fn is_read(v: Event) -> bool
+    ensures { λ r. ⌜ r ≡ isRead v ⌝ }
+{
+    (v.kind == READ) | (v.kind == SINGLE_READ)
+}
+
+// Whether it is a write, plain or by a single instruction.
+pub fn is_write(v: Event) -> bool
+    ensures { λ r. ⌜ r ≡ isWrite v ⌝ }
+{
+    (v.kind == WRITE) | (v.kind == SINGLE_WRITE)
+}
+
+// Whether it is an access: a read or a write.
+pub fn is_access(v: Event) -> bool
+    ensures { λ r. ⌜ r ≡ isAccess v ⌝ }
+{
+    is_read(v) | is_write(v)
+}
+
+// Whether it is an access by a single instruction.
+pub fn is_single(v: Event) -> bool
+    ensures { λ r. ⌜ r ≡ isSingle v ⌝ }
+{
+    (v.kind == SINGLE_READ) | (v.kind == SINGLE_WRITE)
 }
 
 // Whether event e has this kind and this object.
@@ -396,13 +428,12 @@ fn put_first(chain: &mut [u16; CHAINS], x: u16, i: usize)
     chain[head] = i as u16;
 }
 
-// Puts place i, that of the event v, first in the chain of its object, where its kind is one of lo to hi and its object is
-// below `limit`.
-fn link(v: Event, lo: u8, hi: u8, limit: u16, i: usize, chain: &mut [u16; CHAINS])
+// Puts place i, that of the event v, first in the chain of its cell, where it is an access of one below `limit`.
+fn link(v: Event, limit: u16, i: usize, chain: &mut [u16; CHAINS])
     requires { ⌜ (limit ≤ mostCells) × (i < mostEvents) ⌝ }
-    ensures { λ _. ⌜ now (chain .exit) ≡ linked lo hi limit v i (now (chain .entry)) ⌝ }
+    ensures { λ _. ⌜ now (chain .exit) ≡ linked limit v i (now (chain .entry)) ⌝ }
 {
-    if (v.kind < lo) | (hi < v.kind) | (limit <= v.object) {
+    if !is_access(v) | (limit <= v.object) {
         return;
     }
     put_first(chain, v.object, i);
@@ -463,10 +494,10 @@ pub fn at_place(order: &[u16], i: usize) -> usize
     order[i] as usize
 }
 
-// Gathers them along an order of the events: the chains are of places in it.
-pub fn gather_in(records: &[u8], order: &[u16], lo: u8, hi: u8, limit: u16) -> [u16; CHAINS]
+// Gathers the accesses of each cell along an order of the events: the chains are of places in it.
+pub fn gather_in(records: &[u8], order: &[u16], limit: u16) -> [u16; CHAINS]
     requires { ⌜ Along (now records) (now order) × (limit ≤ mostCells) ⌝ }
-    ensures { λ r. ⌜ Chained (amongIn (now (records .entry)) (now (order .entry)) lo hi) (length (now (order .entry))) limit 0 r ⌝ }
+    ensures { λ r. ⌜ Chained (accessOf (now (records .entry)) (now (order .entry))) (length (now (order .entry))) limit 0 r ⌝ }
 {
     let mut i = order.len();
     let none = i as u16;
@@ -474,7 +505,7 @@ pub fn gather_in(records: &[u8], order: &[u16], lo: u8, hi: u8, limit: u16) -> [
     while 0 < i {
         i -= 1;
         let v = event_at(records, at_place(order, i));
-        link(v, lo, hi, limit, i, &mut chain);
+        link(v, limit, i, &mut chain);
     }
     chain
 }

@@ -1,8 +1,9 @@
--- What the editions say of start counts and post counts, and that nothing is said of flags in editions 1 and 2.
+-- What the editions say of start counts and post counts, and that nothing is said of flags and of single-instruction accesses in
+-- editions 1 and 2.
 -- Assumes nothing.
-use Prim.Native.Nat.{ℕ, _≤_, _<_}
-use mathlib.Core.Path.{_≡_, refl, sym, ap, _∙_}
-use mathlib.Core.Bool.{false, not, cond, _&&_}
+use Prim.Native.Nat.{ℕ, zero, suc, _≤_, _<_}
+use mathlib.Core.Path.{_≡_, refl, sym, ap, ap₂, _∙_}
+use mathlib.Core.Bool.{false, not, cond, _&&_, _||_, or-comm}
 use mathlib.Core.List.{List, [], _∷_, _++_, append-nil}
 use native.Mathlib.Omega.{arith}
 use lib.Dec.{leb, eqb}
@@ -11,13 +12,14 @@ use Rattle.model.specs.declared.Event.{Event}
 use Rattle.model.specs.declared.Trailer.{Trailer}
 use Rattle.model.specs.declared.Reading.{Reading}
 use Rattle.model.specs.Numbers.{filter, found}
-use Rattle.model.specs.Recording.{startOf, Recording, size, event, kindOf, objectOf, signal, wait, write, flagWait, waitKept, flagKept, lifeKept, obeys, hasFlags, semaphoresOf, flagsOf, lastKind, knownKind, Accepted}
+use Rattle.model.specs.Recording.{startOf, Recording, size, event, taskOf, kindOf, objectOf, signal, wait, read, write, flagWait, singleRead, singleWrite, waitKept, flagKept, lifeKept, obeys, hasFlags, semaphoresOf, flagsOf, lastKind, knownKind, Accepted}
 use Rattle.model.specs.File.{trailerOf, startCount, recordingOf}
 use Rattle.model.specs.Reading.{readingOf, startsOf, postsOf}
 use Rattle.model.specs.Vectors.{Vectors, ordered}
 use Rattle.model.specs.Passes.{sources, signalsOn, kOf, needed, candidates}
 use Rattle.model.specs.Recorded.{matched, opened, causes}
-use Rattle.model.specs.Editions.{AsBefore, Editions}
+use Rattle.model.specs.Pairs.{isWrite, isAccess, isSingle, conflict}
+use Rattle.model.specs.Editions.{isPlain, AsBefore, Editions}
 use Rattle.model.proofs.Tests.{cases, second, and-true, leb-true, ne-eqb}
 use Rattle.model.proofs.Accept.{kept-at}
 use Rattle.model.proofs.Files.{sound, reading-passed, trailer-read, accepted-recording, starts-met, posts-met}
@@ -32,6 +34,17 @@ none-given : (p : List ℕ) → length p ≡ 0 → p ≡ []
 none-given [] q = refl
 none-given (x ∷ p) q = absurd (omega arith)
 
+-- no kind of document 01 is an access by a single instruction
+plain-kind : (k : ℕ) → k ≤ write → isSingle (record { task = 0; kind = k; object = 0 }) ≡ false
+plain-kind zero l = refl
+plain-kind (suc zero) l = refl
+plain-kind (suc (suc zero)) l = refl
+plain-kind (suc (suc (suc zero))) l = refl
+plain-kind (suc (suc (suc (suc zero)))) l = refl
+plain-kind (suc (suc (suc (suc (suc zero))))) l = refl
+plain-kind (suc (suc (suc (suc (suc (suc zero)))))) l = refl
+plain-kind (suc (suc (suc (suc (suc (suc (suc k))))))) l = absurd (omega arith)
+
 module _ (E : Recording) (acc : Accepted E) (none : hasFlags (E .counts) ≡ false) (given : length (E .levels .posts) ≡ flagsOf (E .counts)) where
   no-flags : flagsOf (E .counts) ≡ 0
   unfolding flagsOf
@@ -41,8 +54,11 @@ module _ (E : Recording) (acc : Accepted E) (none : hasFlags (E .counts) ≡ fal
   unfolding knownKind lastKind
   few-kinds e l = leb-true (kindOf E e) write (rw none at (second (leb signal (kindOf E e)) _ (kept-at E acc e l .kind)))
 
+  no-later : (k : ℕ) → write < k → (e : ℕ) → e < size E → eqb (kindOf E e) k ≡ false
+  no-later k g e l = ne-eqb (kindOf E e) k (λ q. omega (arith, few-kinds e l))
+
   no-flag-wait : (e : ℕ) → e < size E → eqb (kindOf E e) flagWait ≡ false
-  no-flag-wait e l = ne-eqb (kindOf E e) flagWait (λ q. omega (arith, few-kinds e l))
+  no-flag-wait = no-later flagWait (omega arith)
 
   four-rules : (before : List Event) (e : ℕ) → e < size E
       → obeys (E .levels) before (event E e) ≡ (lifeKept before (event E e) && waitKept (E .levels) before (event E e))
@@ -62,9 +78,25 @@ module _ (E : Recording) (acc : Accepted E) (none : hasFlags (E .counts) ≡ fal
   unfolding opened
   signal-alone e l = rw (no-flag-wait e l) (ap (λ (m : List ℕ). sources (E .events) e ++ m) (append-nil _))
 
-  before-flags : AsBefore E
+  plain-write : (e : ℕ) → e < size E → isWrite (event E e) ≡ eqb (kindOf E e) write
+  plain-write e l = rw (no-later singleWrite (omega arith) e l) (or-comm (eqb (kindOf E e) write) false)
+
+  plain : (e : ℕ) → e < size E → isAccess (event E e) ≡ isPlain E e
+  plain e l = rw (no-later singleRead (omega arith) e l) (ap₂ _||_ (or-comm (eqb (kindOf E e) read) false) (plain-write e l))
+
+  no-single : (e : ℕ) → e < size E → isSingle (event E e) ≡ false
+  no-single e l = plain-kind (kindOf E e) (few-kinds e l)
+
+  plain-conflicts : (a b : ℕ) → a < size E → b < size E
+      → conflict (event E a) (event E b)
+      ≡ (isPlain E a && isPlain E b && eqb (objectOf E a) (objectOf E b) && not (eqb (taskOf E a) (taskOf E b))
+      && (eqb (kindOf E a) write || eqb (kindOf E b) write))
+  unfolding conflict
+  plain-conflicts a b l m = rw (plain a l, plain b m, plain-write a l, plain-write b m, no-single a l) (and-true _)
+
+  before-edition-3 : AsBefore E
   unfolding semaphoresOf
-  before-flags =
+  before-edition-3 =
       record {
         semaphores = rw none;
         flags = no-flags;
@@ -74,6 +106,8 @@ module _ (E : Recording) (acc : Accepted E) (none : hasFlags (E .counts) ≡ fal
         k = wait-k;
         served-by = by-signals;
         follows = signal-alone;
+        single = no-single;
+        conflicts = plain-conflicts;
       }
 
 -- ---- a file that reading accepts
@@ -101,7 +135,7 @@ module _ (f : List ℕ) (h : Trailer) (q : readingOf f ≡ Reading.Accepted h) w
   unfolding recordingOf
   as-before e =
       let own = ap (λ (t : Trailer). t .counts .edition) (trailer-read f h q) in
-      before-flags (recordingOf f) (accepted-recording f h q) (ne-eqb (trailerOf f .counts .edition) 3 (λ z. omega arith))
+      before-edition-3 (recordingOf f) (accepted-recording f h q) (ne-eqb (trailerOf f .counts .edition) 3 (λ z. omega arith))
       (posts-met f (sound f (reading-passed f h q) .extent))
 
 pub editions : Editions

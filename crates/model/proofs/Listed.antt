@@ -12,9 +12,9 @@ use lib.ListN.{length}
 use Rattle.model.specs.declared.Event.{Event}
 use Rattle.model.specs.declared.Counts.{Counts}
 use Rattle.model.specs.Numbers.{flatMapTails}
-use Rattle.model.specs.Recording.{Recording, cells, event, taskOf, objectOf, classOf, namesOf, read, write}
+use Rattle.model.specs.Recording.{Recording, cells, event, taskOf, objectOf, classOf, namesOf, read, write, singleRead, singleWrite}
 use Rattle.model.specs.Vectors.{Vectors, number, position, ordered, unordered}
-use Rattle.model.specs.Pairs.{isAccess, isWrite, conflict, racePair, mark, Entry, entry, entriesOf, rowAt, cellEntries, entriesIn, Among, entryNumbers, entryAt}
+use Rattle.model.specs.Pairs.{isRead, isWrite, isAccess, isSingle, conflict, racePair, mark, Entry, entry, entriesOf, rowAt, cellEntries, entriesIn, Among, entryNumbers, entryAt}
 use Rattle.model.specs.Rows.Conflicts.{Symmetric}
 use Rattle.model.proofs.Tests.{clash, fails, of-not, to-not, both, first, second, all-three, either, le-leb, leb-true, eqb-true, eqb-false, eq-eqb, eqb-turned}
 use Rattle.model.proofs.Climb.{AtMost}
@@ -25,7 +25,7 @@ use Rattle.model.proofs.Each.{each-of, each-in, flat-of, flat-in, where
 pub symmetric : Symmetric
 unfolding conflict
 symmetric v w =
-    rw (and-comm (isAccess v) (isAccess w), eqb-turned (v .object) (w .object), eqb-turned (v .task) (w .task), or-comm (isWrite v) (isWrite w))
+    rw (and-comm (isAccess v) (isAccess w), eqb-turned (v .object) (w .object), eqb-turned (v .task) (w .task), or-comm (isWrite v) (isWrite w), and-comm (isSingle v) (isSingle w))
 
 pub unordered-turned : (l : List Event) (X : Vectors) (a b : ℕ) → unordered l X a b ≡ unordered l X b a
 unfolding unordered
@@ -44,9 +44,14 @@ module _ (v w : Event) (h : conflict v w ≡ true) where
   abbrev shared : Bool
   shared = isAccess v && isAccess w && eqb (v .object) (w .object)
 
+  abbrev apart : Bool
+  apart = shared && not (eqb (v .task) (w .task))
+
   sharing : (shared ≡ true) × (not (eqb (v .task) (w .task)) ≡ true)
   unfolding conflict
-  sharing = let t = first (shared && not (eqb (v .task) (w .task))) (isWrite v || isWrite w) h in (first shared _ t, second shared _ t)
+  sharing =
+      let t = first apart (isWrite v || isWrite w) (first (apart && (isWrite v || isWrite w)) (not (isSingle v && isSingle w)) h) in
+      (first shared _ t, second shared _ t)
 
   pub conflict-accesses : (isAccess v ≡ true) × (isAccess w ≡ true)
   conflict-accesses = let (a, b, c) = all-three (isAccess v) (isAccess w) _ (sharing .0) in (a, b)
@@ -60,11 +65,16 @@ module _ (v w : Event) (h : conflict v w ≡ true) where
 -- a conflict is on a cell
 pub conflict-cell : (c : Counts) (v w : Event) → conflict v w ≡ true → namesOf c (classOf (v .kind)) ≡ c .cells
 unfolding classOf
-conflict-cell c v w h = go (either (eqb (v .kind) read) (isWrite v) (conflict-accesses v w h .0))
+conflict-cell c v w h = go (either (isRead v) (isWrite v) (conflict-accesses v w h .0))
   where
-    go : (eqb (v .kind) read ≡ true) ⊎ (isWrite v ≡ true) → namesOf c (classOf (v .kind)) ≡ c .cells
-    go (inl t) = ap (λ (k : ℕ). namesOf c (classOf k)) (eqb-true (v .kind) read t)
-    go (inr t) = ap (λ (k : ℕ). namesOf c (classOf k)) (eqb-true (v .kind) write t)
+    by : (k l : ℕ) → namesOf c (classOf k) ≡ c .cells → namesOf c (classOf l) ≡ c .cells → (eqb (v .kind) k ≡ true) ⊎ (eqb (v .kind) l ≡ true)
+        → namesOf c (classOf (v .kind)) ≡ c .cells
+    by k l p q (inl t) = ap (λ (n : ℕ). namesOf c (classOf n)) (eqb-true (v .kind) k t) ∙ p
+    by k l p q (inr t) = ap (λ (n : ℕ). namesOf c (classOf n)) (eqb-true (v .kind) l t) ∙ q
+
+    go : (isRead v ≡ true) ⊎ (isWrite v ≡ true) → namesOf c (classOf (v .kind)) ≡ c .cells
+    go (inl t) = by read singleRead refl refl (either (eqb (v .kind) read) (eqb (v .kind) singleRead) t)
+    go (inr t) = by write singleWrite refl refl (either (eqb (v .kind) write) (eqb (v .kind) singleWrite) t)
 
 -- lower numbers order less
 pub ordered-more : (E : Recording) (X Y : Vectors) → AtMost X Y → (a b : ℕ) → ordered (E .events) X a b ≡ true → ordered (E .events) Y a b ≡ true

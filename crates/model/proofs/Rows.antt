@@ -28,6 +28,7 @@ use Rattle.model.specs.Rows.Parts.{Parts}
 use Rattle.model.specs.Rows.Raised.{Raised}
 use Rattle.model.specs.Rows.Looked.{LookedAt}
 use Rattle.model.specs.Rows.Conflicts.{Conflicts}
+use Rattle.model.specs.Rows.Single.{Single}
 use Rattle.model.specs.Rows.Table.{Table}
 use Rattle.model.specs.Rows.Lent.{Lent}
 use Rattle.model.specs.Rows.Printed.{Printed}
@@ -136,14 +137,38 @@ looked-at = record {
 pub conflicts : Conflicts
 unfolding rows
 conflicts = record {
-  write-write = refl;
-  read-write = refl;
-  write-read = refl;
-  read-read = refl;
+  reads = refl;
+  writes = refl;
+  single-reads = refl;
+  single-writes = refl;
   one-task = refl;
   two-cells = refl;
+  one-task-two-cells = refl;
   no-access = refl;
   no-kind = refl;
+}
+
+pub single : Single
+unfolding rows
+single = record {
+  both-write = (refl, refl);
+  one-writes = (refl, refl);
+  write-plain-read = (refl, refl);
+  write-plain-write = (refl, refl);
+  read-plain-write = (refl, refl);
+  read-plain-read = (refl, refl);
+  among-three = (refl, refl);
+  kinds = refl;
+  kind-9-edition-1 = refusal Reading.Refused (Refusal.Kind 0);
+  kind-10-edition-1 = refusal Reading.Refused (Refusal.Kind 0);
+  kind-9-edition-2 = refusal Reading.Refused (Refusal.Kind 0);
+  kind-10-edition-2 = refusal Reading.Refused (Refusal.Kind 0);
+  kind-11 = refusal Reading.Refused (Refusal.Kind 0);
+  kind-10-written = refl;
+  kind-10-edition-2-written = refusal Written.Refused (Refusal.Kind 0);
+  kind-11-written = refusal Written.Refused (Refusal.Kind 0);
+  cell-1-read = refusal Reading.Refused (Refusal.Name 0);
+  cell-1-written = refusal Reading.Refused (Refusal.Name 0);
 }
 
 pub table : Table
@@ -305,7 +330,7 @@ beyond = record {
   no-event = refl;
   kind-0 = refl;
   kind-7 = refl;
-  kind-9 = refl;
+  kind-11 = refl;
   no-vector = refl;
   no-task = refl;
   no-place = refl;

@@ -99,7 +99,6 @@ flagged = record {
   kind-8-edition-1 = refusal Reading.Refused (Refusal.Kind 0);
   kind-7-edition-2 = refusal Reading.Refused (Refusal.Kind 0);
   kind-8-edition-2 = refusal Reading.Refused (Refusal.Kind 0);
-  kind-9 = refusal Reading.Refused (Refusal.Kind 0);
   kind-0 = refusal Reading.Refused (Refusal.Kind 0);
   name-before-flag = refusal Reading.Refused (Refusal.Name 0);
   life-before-flag = refusal Reading.Refused (Refusal.Life 2);

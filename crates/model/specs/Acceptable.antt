@@ -1,5 +1,5 @@
--- A file is accepted exactly when its rules hold (document 01, The recording file and What an acceptable recording obeys; 02, No. 1
--- and 6). The rules are in the order of the refusal table, 1 to 8 and 16; the tests that they cite are those of reading and of admissible orders.
+-- A file is accepted exactly when its rules hold (document 01, The recording file and What an acceptable recording obeys; 02, No. 1,
+-- 6 and 8). The rules are in the order of the refusal table, 1 to 8 and 16; the tests that they cite are those of reading and of admissible orders.
 -- Assumes nothing.
 use Prim.Native.Nat.{ℕ, _+_, _*_, _≤_, _<_}
 use mathlib.Core.Path.{_≡_}
@@ -29,7 +29,7 @@ pub record InRange (c : Counts) (n : ℕ) : Type 0 where
 
 -- what record e of a recording obeys
 pub record Kept (E : Recording) (e : ℕ) : Type 0 where
-  -- its kind is 1 to 6, in edition 3 1 to 8
+  -- its kind is 1 to 6, in edition 3 1 to 10
   pub kind : knownKind (E .counts) (event E e) ≡ true
   -- its task and its object are below their counts
   pub names : named (E .counts) (event E e) ≡ true

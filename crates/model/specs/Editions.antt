@@ -1,9 +1,9 @@
 -- What the editions say of start counts and post counts, and that a file of edition 1 or 2 means what it meant before there were
--- flags (document 02, No. 1 and 6). Proved as `editions` in proofs/Editions.antt.
+-- flags and single-instruction accesses (document 02, No. 1, 6 and 8). Proved as `editions` in proofs/Editions.antt.
 -- Assumes nothing.
 use Prim.Native.Nat.{ℕ, _≤_, _<_}
 use mathlib.Core.Path.{_≡_}
-use mathlib.Core.Bool.{not, cond, _&&_}
+use mathlib.Core.Bool.{Bool, false, not, cond, _&&_, _||_}
 use mathlib.Core.List.{List, [], _++_}
 use lib.Dec.{eqb}
 use lib.ListN.{length, getD}
@@ -11,20 +11,25 @@ use Rattle.model.specs.declared.Event.{Event}
 use Rattle.model.specs.declared.Trailer.{Trailer}
 use Rattle.model.specs.declared.Reading.{Reading}
 use Rattle.model.specs.Numbers.{filter, found}
-use Rattle.model.specs.Recording.{startOf, postOf, Recording, size, event, kindOf, objectOf, wait, write, waitKept, lifeKept, obeys, semaphoresOf, flagsOf}
+use Rattle.model.specs.Recording.{startOf, postOf, Recording, size, event, taskOf, kindOf, objectOf, wait, read, write, waitKept, lifeKept, obeys, semaphoresOf, flagsOf}
 use Rattle.model.specs.File.{trailerOf, recordingOf}
 use Rattle.model.specs.Reading.{readingOf, startsOf, postsOf}
 use Rattle.model.specs.Vectors.{Vectors, ordered}
 use Rattle.model.specs.Passes.{sources, signalsOn, kOf, needed, candidates}
 use Rattle.model.specs.Recorded.{matched, causes}
+use Rattle.model.specs.Pairs.{isSingle, conflict}
 
--- what is said of flags says nothing of this recording
+-- an access by one of document 01's kinds
+abbrev pub isPlain : Recording → ℕ → Bool
+isPlain E e = eqb (kindOf E e) read || eqb (kindOf E e) write
+
+-- what is said of flags and of single-instruction accesses says nothing of this recording
 pub record AsBefore (E : Recording) : Type 0 where
   -- the field counts semaphores alone, and there is no post count
   pub semaphores : semaphoresOf (E .counts) ≡ E .counts .semaphores
   pub flags : flagsOf (E .counts) ≡ 0
   pub posts : E .levels .posts ≡ []
-  -- no event is a post or a flag wait
+  -- no event is of a later kind than a write
   pub kinds : (e : ℕ) → e < size E → kindOf E e ≤ write
   -- the rules are those of document 01
   pub rules : (before : List Event) (e : ℕ) → e < size E
@@ -35,6 +40,12 @@ pub record AsBefore (E : Recording) : Type 0 where
       → candidates E X e ≡ filter (λ s. not (ordered (E .events) X e s)) (signalsOn (E .events) (objectOf E e))
   -- in the recorded run an event follows step 1's and the matched signal
   pub follows : (e : ℕ) → e < size E → causes (E .levels) (E .events) e ≡ sources (E .events) e ++ found (matched (E .levels) (E .events) e)
+  -- no access is by a single instruction, and the conflicts are those of document 01
+  pub single : (e : ℕ) → e < size E → isSingle (event E e) ≡ false
+  pub conflicts : (a b : ℕ) → a < size E → b < size E
+      → conflict (event E a) (event E b)
+      ≡ (isPlain E a && isPlain E b && eqb (objectOf E a) (objectOf E b) && not (eqb (taskOf E a) (taskOf E b))
+      && (eqb (kindOf E a) write || eqb (kindOf E b) write))
 
 pub record Editions : Type 0 where
   -- in edition 1 every start count is 0

@@ -1,4 +1,4 @@
--- Conflicts, race pairs, their marks, and the list (document 01, List and marks; 02, No. 2).
+-- Conflicts, race pairs, their marks, and the list (document 01, List and marks; 02, No. 2 and 8).
 -- Assumes nothing.
 use Prim.Native.Nat.{ℕ, _+_, _*_}
 use mathlib.Core.Bool.{Bool, cond, not, _&&_, _||_}
@@ -8,21 +8,36 @@ use lib.Dec.{eqb}
 use lib.ListN.{length, getD}
 use Rattle.model.specs.declared.Event.{Event}
 use Rattle.model.specs.Numbers.{each, flatMap, flatMapTails, picked}
-use Rattle.model.specs.Recording.{Recording, tasks, cells, event, eventIn, objectOf, ofTask, read, write}
+use Rattle.model.specs.Recording.{Recording, tasks, cells, event, eventIn, objectOf, ofTask, read, write, singleRead, singleWrite}
 use Rattle.model.specs.Vectors.{Vectors, unordered}
 use Rattle.model.specs.Passes.{safeVectors}
 use Rattle.model.specs.Recorded.{recorded}
 
+-- a read, plain or by a single instruction
+abbrev pub isRead : Event → Bool
+isRead v = eqb (v .kind) read || eqb (v .kind) singleRead
+
+-- a write, plain or by a single instruction
 abbrev pub isWrite : Event → Bool
-isWrite v = eqb (v .kind) write
+isWrite v = eqb (v .kind) write || eqb (v .kind) singleWrite
 
--- a read or a write
+-- an access: a read or a write
 abbrev pub isAccess : Event → Bool
-isAccess v = eqb (v .kind) read || isWrite v
+isAccess v = isRead v || isWrite v
 
--- two accesses to one cell, from different tasks, at least one writing
+-- an access by a single instruction
+abbrev pub isSingle : Event → Bool
+isSingle v = eqb (v .kind) singleRead || eqb (v .kind) singleWrite
+
+-- an access of cell x
+abbrev pub isAccessOf : ℕ → Event → Bool
+isAccessOf x v = isAccess v && eqb (v .object) x
+
+-- two accesses to one cell, from different tasks, at least one writing, and not both by a single instruction
 unfoldable pub conflict : Event → Event → Bool
-conflict v w = isAccess v && isAccess w && eqb (v .object) (w .object) && not (eqb (v .task) (w .task)) && (isWrite v || isWrite w)
+conflict v w =
+    isAccess v && isAccess w && eqb (v .object) (w .object) && not (eqb (v .task) (w .task)) && (isWrite v || isWrite w)
+    && not (isSingle v && isSingle w)
 
 -- a race pair: a conflicting pair that the safe vectors X do not order
 unfoldable pub racePair : Recording → Vectors → ℕ → ℕ → Bool

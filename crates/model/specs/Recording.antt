@@ -1,4 +1,4 @@
--- A recording, the rules, and the first faulty record (document 01, What an acceptable recording obeys; 02, No. 1 and 6).
+-- A recording, the rules, and the first faulty record (document 01, What an acceptable recording obeys; 02, No. 1, 6 and 8).
 -- Assumes nothing.
 use Prim.Native.Nat.{ℕ, zero, suc, _+_, _/_, _%_}
 use mathlib.Core.Path.{_≡_}
@@ -102,6 +102,13 @@ post = 7
 abbrev pub flagWait : ℕ
 flagWait = 8
 
+-- a read and a write by the processor's own single-instruction access
+abbrev pub singleRead : ℕ
+singleRead = 9
+
+abbrev pub singleWrite : ℕ
+singleWrite = 10
+
 abbrev pub ofTask : ℕ → Event → Bool
 ofTask t v = eqb (v .task) t
 
@@ -169,7 +176,8 @@ obeys x before v = lifeKept before v && waitKept x before v && flagKept x before
 -- the table of kinds: what the object of each names
 abbrev pub classes : List Class
 classes =
-    Class.Nothing ∷ Class.Semaphore ∷ Class.Semaphore ∷ Class.Task ∷ Class.Task ∷ Class.Cell ∷ Class.Cell ∷ Class.Flag ∷ Class.Flag ∷ []
+    Class.Nothing ∷ Class.Semaphore ∷ Class.Semaphore ∷ Class.Task ∷ Class.Task ∷ Class.Cell ∷ Class.Cell ∷ Class.Flag ∷ Class.Flag
+    ∷ Class.Cell ∷ Class.Cell ∷ []
 
 unfoldable pub classOf : ℕ → Class
 classOf k = getD classes k Class.Nothing
@@ -182,9 +190,9 @@ namesOf c Class.Task = c .tasks
 namesOf c Class.Cell = c .cells
 namesOf c Class.Flag = flagsOf c
 
--- the last kind: 6, with flags 8
+-- the last kind: 6, in edition 3 10
 unfoldable pub lastKind : Counts → ℕ
-lastKind c = cond (hasFlags c) flagWait write
+lastKind c = cond (hasFlags c) singleWrite write
 
 -- the kind is one of the edition's, from 1 on
 unfoldable pub knownKind : Counts → Event → Bool

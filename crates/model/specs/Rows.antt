@@ -10,6 +10,7 @@ pub mod Parts
 pub mod Raised
 pub mod Looked
 pub mod Conflicts
+pub mod Single
 pub mod Table
 pub mod Lent
 pub mod Printed

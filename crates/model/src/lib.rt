@@ -21,6 +21,11 @@ pub const POST: u8 = 7;
 
 pub const FLAG_WAIT: u8 = 8;
 
+// A read and a write by the processor's own single-instruction access.
+pub const SINGLE_READ: u8 = 9;
+
+pub const SINGLE_WRITE: u8 = 10;
+
 // The most tasks, semaphores, flags, cells and events that a recording has.
 pub const MOST_TASKS: u16 = 16;
 

@@ -1,10 +1,10 @@
--- Laws of the chains of accesses: that the kinds gathered are the accesses, and that what a chain passes over has no part in a list. Assumes nothing.
-use mathlib.Core.Path.{_≡_, refl, ap}
-use mathlib.Core.Bool.{Bool, true, false, _&&_, _||_}
+-- Laws of the chains of accesses: what a chain passes over has no part in a list. Assumes nothing.
+use mathlib.Core.Path.{_≡_, refl}
+use mathlib.Core.Bool.{true, false}
 use mathlib.Core.List.{List, []}
 use Prim.Native.Nat.{ℕ, _+_, _≤_, _<_}
 use native.Mathlib.Omega.{arith}
-use lib.Dec.{leb, eqb}
+use lib.Dec.{eqb}
 use lib.ListN.{length, getD}
 use Rattle.model.specs.Numbers.{each}
 use Rattle.model.specs.File.{eventsOf}
@@ -13,27 +13,10 @@ use Rattle.model.specs.Reading.{mostEvents}
 use Rattle.model.proofs.TaskOrder.{order-length, order-at}
 use Rattle.events.specs.Kept.{Tasked}
 use Rattle.model.proofs.Each.{each-skip}
-use Rattle.model.proofs.Tests.{cases, tests, fails, both, first, second, eqb-true, eq-eqb}
-use Rattle.events.specs.Chains.{amongIn, head, Along, Chained as ChainedOf}
-use Rattle.events.proofs.Chains.{chained-by}
-use Rattle.pairs.specs.Chains.{accessOf, Nearest, Linked, InChain}
-use Rattle.model.specs.Recording.{eventIn, read, write}
-
--- the kinds from read to write are the accesses
-two-kinds : (k : ℕ) → (leb read k && leb k write) ≡ (eqb k read || eqb k write)
-two-kinds k =
-    cases (eqb k read) (λ t. let q : k ≡ read = omega tests in rw q)
-    (λ t. cases (eqb k write) (λ u. let q : k ≡ write = omega tests in rw q)
-    (λ u. rw (t, u) (fails (leb read k && leb k write) (λ w. let a = first (leb read k) (leb k write) w in let b = second (leb read k) (leb k write) w in omega tests))))
-
-pub gathered : (s order : List ℕ) (k : ℕ) (chain : List ℕ) → Along s order → ChainedOf (amongIn s order read write) (length order) k 0 chain → Linked s order k chain
-gathered s order k chain h c =
-    record {
-      along = h;
-      chained =
-          chained-by (amongIn s order read write) (accessOf s order) (length order) k 0 chain
-          (λ x i. let v = eventIn (eventsOf s) (getD order i 0) in ap (λ (b : Bool). b && eqb (v .object) x) (two-kinds (v .kind))) c;
-    }
+use Rattle.model.proofs.Tests.{both, first, second, eqb-true, eq-eqb}
+use Rattle.events.specs.Chains.{accessOf, head, Along}
+use Rattle.pairs.specs.Chains.{Nearest, Linked, InChain}
+use Rattle.model.specs.Recording.{eventIn}
 
 -- the task order is one of the records' events
 pub task-order-along : (s : List ℕ) (tasks : ℕ) → length (eventsOf s) ≤ mostEvents → Tasked (eventsOf s) tasks → Along s (taskOrder (eventsOf s) tasks)

@@ -13,11 +13,11 @@ use Rattle.model.specs.Numbers.{each}
 use Rattle.model.specs.Recording.{Recording, cells, event, objectOf}
 use Rattle.model.specs.File.{recordingBy}
 use Rattle.model.specs.Vectors.{Vectors, unordered}
-use Rattle.model.specs.Pairs.{isAccess, conflict, racePair, mark, Entry, entry, pairAt, entriesOf, rowAt, cellEntries, entriesIn}
+use Rattle.model.specs.Pairs.{isAccess, isAccessOf, conflict, racePair, mark, Entry, entry, pairAt, entriesOf, rowAt, cellEntries, entriesIn}
 use Rattle.model.proofs.Tests.{cases, clash, fails, both, second, and-false, eq-eqb}
 use Rattle.model.proofs.Listed.{conflict-accesses, conflict-object}
 use Rattle.model.proofs.Each.{each-none, each-most, each-count, flat-each, tails-each}
-use Rattle.pairs.specs.Chains.{isAccessOf, Nearest}
+use Rattle.pairs.specs.Chains.{Nearest}
 use Rattle.pairs.specs.Lent.{rowOf}
 use Rattle.pairs.proofs.Chains.{skipped}
 

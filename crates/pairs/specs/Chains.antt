@@ -2,23 +2,12 @@
 -- Assumes nothing.
 use Prim.Native.Nat.{ℕ, _<_}
 use mathlib.Core.Path.{_≡_}
-use mathlib.Core.Bool.{Bool, true, _&&_}
+use mathlib.Core.Bool.{true}
 use mathlib.Core.List.{List}
-use lib.Dec.{eqb}
 use lib.ListN.{length, getD}
-use Rattle.model.specs.declared.Event.{Event}
 use Rattle.model.specs.File.{eventsOf}
-use Rattle.model.specs.Pairs.{isAccess}
-use Rattle.events.specs.Chains.{Along, Nearest as NearestOf, Chained as ChainedOf}
+use Rattle.events.specs.Chains.{accessOf, Along, Nearest as NearestOf, Chained as ChainedOf}
 use Rattle.model.specs.Recording.{eventIn}
-
--- an access of cell x
-abbrev pub isAccessOf : ℕ → Event → Bool
-isAccessOf x v = isAccess v && eqb (v .object) x
-
--- the event at place i of an order accesses cell x
-abbrev pub accessOf : List ℕ → List ℕ → ℕ → ℕ → Bool
-accessOf s order x i = isAccessOf x (eventIn (eventsOf s) (getD order i 0))
 
 -- from m on the nearest place of an access of cell x is j; the length of the order where there is none
 abbrev pub Nearest : List ℕ → List ℕ → ℕ → ℕ → ℕ → Type 0

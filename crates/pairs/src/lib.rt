@@ -6,7 +6,7 @@ ghost use lib.ListN.{length};
 ghost use lib.Seq.{sets};
 ghost use Rattle.model.specs.File.{recordingBy, eventsOf};
 ghost use Rattle.model.specs.Vectors.{unordered};
-ghost use Rattle.model.specs.Pairs.{isAccess, isWrite, conflict, racePair, mark, pairAt, cellEntries, entriesIn, entries};
+ghost use Rattle.model.specs.Pairs.{conflict, racePair, mark, pairAt, cellEntries, entriesIn, entries};
 ghost use Rattle.model.specs.Question.{relationBy};
 ghost use Rattle.model.specs.Reading.{mostCells};
 ghost use Rattle.passes.specs.Lent.{vectorsIn, Fitting, Numbered, Placed};
@@ -17,33 +17,18 @@ use events::CHAINS;
 use model::Counts;
 use model::Event;
 use model::MOST_EVENTS;
-use model::READ;
 use model::Relation;
-use model::WRITE;
 
-// Whether the event is a write.
-fn is_write(v: Event) -> bool
-    ensures { λ r. ⌜ r ≡ isWrite v ⌝ }
-{
-    v.kind == WRITE
-}
-
-// Whether the event is a read or a write.
-fn is_access(v: Event) -> bool
-    ensures { λ r. ⌜ r ≡ isAccess v ⌝ }
-{
-    (v.kind == READ) | is_write(v)
-}
-
-// Whether the two events access one cell, from different tasks, at least one writing.
+// Whether the two events access one cell, from different tasks, at least one writing, and not both by a single instruction.
 pub fn conflict(v: Event, w: Event) -> bool
     ensures { λ r. ⌜ r ≡ conflict v w ⌝ }
 {
-    is_access(v)
-        & is_access(w)
+    events::is_access(v)
+        & events::is_access(w)
         & (v.object == w.object)
         & (v.task != w.task)
-        & (is_write(v) | is_write(w))
+        & (events::is_write(v) | events::is_write(w))
+        & !(events::is_single(v) & events::is_single(w))
 }
 
 // Whether the vectors order neither event before the other.
@@ -392,7 +377,7 @@ fn list_in(
     requires { ⌜ Lent (now records) counts (now positions) (now safe) (now recorded) × Along (now records) (now order) × Width width ⌝ }
     ensures { λ r. ⌜ WrittenList width (over entriesIn (now (records .entry)) counts (now (safe .entry)) (now (recorded .entry)) (now (order .entry))) (now (out .entry)) (now (out .exit)) (r .fits) (r .pairs) ⌝ }
 {
-    let chain = events::gather_in(records, order, READ, WRITE, counts.cells);
+    let chain = events::gather_in(records, order, counts.cells);
     list_chained(
         records,
         counts,

@@ -76,16 +76,16 @@ fn put(life: &mut [u16], what: u16, i: u16, v: u16) {
 
 // The kinds of an edition.
 pub fn kinds_in(edition: u16) -> u16
-    ensures { λ r. ⌜ r ≤ 8 ⌝ }
+    ensures { λ r. ⌜ r ≤ 10 ⌝ }
 {
-    if edition == 3 { 8 } else { 6 }
+    if edition == 3 { 10 } else { 6 }
 }
 
 fn names(kind: u16, s: Shape) -> u16 {
     match kind {
         1 | 2 => s.semaphores,
         3 | 4 => s.tasks,
-        5 | 6 => s.cells,
+        5 | 6 | 9 | 10 => s.cells,
         _ => s.flags,
     }
 }

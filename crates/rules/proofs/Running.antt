@@ -10,7 +10,7 @@ use Rattle.model.specs.declared.Event.{Event}
 use Rattle.model.specs.declared.Counts.{Counts}
 use Rattle.model.specs.declared.Check.{Check}
 use Rattle.model.specs.Numbers.{bit, count}
-use Rattle.model.specs.Recording.{Levels, join, read, write, post, ofTask, isOn, classOf, namesOf, knownKind, named, recordCheck}
+use Rattle.model.specs.Recording.{Levels, join, read, write, post, flagWait, ofTask, isOn, classOf, namesOf, knownKind, named, recordCheck}
 use Rattle.model.specs.Reading.{inRange}
 use Rattle.model.proofs.Tests.{cases, clash, tests, first, second, ne-eqb}
 use Rattle.model.proofs.Checks.{failed-passed}
@@ -80,18 +80,18 @@ pub few : (c : Counts) (n : ℕ) → inRange c n ≡ true → Few c
 few c n h = let r = in-range c n h in record { tasks = omega arith; semaphores = r .few-semaphores; flags = r .few-flags }
 
 -- an event whose names are known has its places, unless it is an access: a cell has none
-few-names : (c : Counts) (k : ℕ) → Few c → ¬ (k ≡ read) → ¬ (k ≡ write) → namesOf c (classOf k) ≤ places
+few-names : (c : Counts) (k : ℕ) → Few c → k ≤ flagWait → ¬ (k ≡ read) → ¬ (k ≡ write) → namesOf c (classOf k) ≤ places
 unfolding classOf
-few-names c zero f h g = omega arith
-few-names c (suc zero) f h g = f .semaphores
-few-names c (suc (suc zero)) f h g = f .semaphores
-few-names c (suc (suc (suc zero))) f h g = f .tasks
-few-names c (suc (suc (suc (suc zero)))) f h g = f .tasks
-few-names c (suc (suc (suc (suc (suc zero))))) f h g = absurd (h refl)
-few-names c (suc (suc (suc (suc (suc (suc zero)))))) f h g = absurd (g refl)
-few-names c (suc (suc (suc (suc (suc (suc (suc zero))))))) f h g = f .flags
-few-names c (suc (suc (suc (suc (suc (suc (suc (suc zero)))))))) f h g = f .flags
-few-names c (suc (suc (suc (suc (suc (suc (suc (suc (suc k))))))))) f h g = omega arith
+few-names c zero f l h g = omega arith
+few-names c (suc zero) f l h g = f .semaphores
+few-names c (suc (suc zero)) f l h g = f .semaphores
+few-names c (suc (suc (suc zero))) f l h g = f .tasks
+few-names c (suc (suc (suc (suc zero)))) f l h g = f .tasks
+few-names c (suc (suc (suc (suc (suc zero))))) f l h g = absurd (h refl)
+few-names c (suc (suc (suc (suc (suc (suc zero)))))) f l h g = absurd (g refl)
+few-names c (suc (suc (suc (suc (suc (suc (suc zero))))))) f l h g = f .flags
+few-names c (suc (suc (suc (suc (suc (suc (suc (suc zero)))))))) f l h g = f .flags
+few-names c (suc (suc (suc (suc (suc (suc (suc (suc (suc k))))))))) f l h g = absurd (omega arith)
 
 pub small : (c : Counts) (v : Event) → Few c → named c v ≡ true → Small v
 unfolding named
@@ -100,8 +100,8 @@ small c v f h =
     let o = second (ltb (v .task) (c .tasks)) (ltb (v .object) (namesOf c (classOf (v .kind)))) h in
     record {
       task = omega (tests, f .tasks);
-      object = λ k. omega (tests, few-names c (v .kind) f (λ q. clash k (ap counted q)) (λ q. clash k (ap counted q)));
-      flag = λ k. omega (tests, few-names c (v .kind) f (λ q. omega arith) (λ q. omega arith));
+      object = λ k. omega (tests, few-names c (v .kind) f (omega (arith, low (v .kind) k)) (λ q. clash k (ap counted q)) (λ q. clash k (ap counted q)));
+      flag = λ k. omega (tests, few-names c (v .kind) f (omega arith) (λ q. omega arith) (λ q. omega arith));
     }
 
 -- and so has one that passed the check

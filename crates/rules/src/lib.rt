@@ -41,6 +41,7 @@ use model::MOST_TASKS;
 use model::POST;
 use model::Refusal;
 use model::SIGNAL;
+use model::SINGLE_WRITE;
 use model::WAIT;
 use model::WITH_FLAGS;
 use model::WRITE;
@@ -52,7 +53,7 @@ const PLACES: usize = 64;
 const COUNTED: usize = 512;
 
 // What the object of each kind names.
-const CLASS: [Class; 9] = [
+const CLASS: [Class; 11] = [
     Class::Nothing, // 0 is no kind
     Class::Semaphore, // 1 signal
     Class::Semaphore, // 2 wait
@@ -62,12 +63,14 @@ const CLASS: [Class; 9] = [
     Class::Cell, // 6 write
     Class::Flag, // 7 post
     Class::Flag, // 8 flag wait
+    Class::Cell, // 9 read by a single instruction
+    Class::Cell, // 10 write by a single instruction
 ];
 
 fn class_of(kind: u8) -> Class
     ensures { λ r. ⌜ r ≡ classOf kind ⌝ }
 {
-    if kind <= FLAG_WAIT {
+    if kind <= SINGLE_WRITE {
         let k = kind as usize;
         CLASS[k]
     } else {
@@ -128,7 +131,7 @@ fn last_kind(counts: Counts) -> u8
     ensures { λ r. ⌜ r ≡ lastKind counts ⌝ }
 {
     if counts.edition == WITH_FLAGS {
-        return FLAG_WAIT;
+        return SINGLE_WRITE;
     }
     WRITE
 }

@@ -201,7 +201,7 @@ fn names(kind: u16, r: Reading) -> u16 {
     match kind {
         1 | 2 => r.semaphores,
         3 | 4 => r.tasks,
-        5 | 6 => r.cells,
+        5 | 6 | 9 | 10 => r.cells,
         _ => r.flags,
     }
 }
@@ -226,7 +226,7 @@ fn life_broken(state: &[u16], x: Record) -> bool {
 fn fault_of(state: &[u16], x: Record, r: Reading) -> u16
     ensures { λ n. ⌜ n ≤ 16 ⌝ }
 {
-    if (x.kind < 1) | (8 < x.kind) | ((6 < x.kind) & (r.edition != 3)) {
+    if (x.kind < 1) | (10 < x.kind) | ((6 < x.kind) & (r.edition != 3)) {
         return 5;
     }
     if (r.tasks <= x.task) | (names(x.kind, r) <= x.object) {

@@ -4,7 +4,7 @@ use crate::memory::at;
 use crate::memory::put;
 
 // How many numbers the state has.
-pub(crate) const STATE: usize = 58512;
+pub(crate) const STATE: usize = 58768;
 
 // By event, seven fields: its record; at a wait the start count of its semaphore, at a flag wait or a
 // post the post count of its flag; its place in its task, from 1; the event before it in its task or the
@@ -30,13 +30,13 @@ pub(crate) const LINK: u16 = 6;
 // their numbers.
 pub(crate) const SEEN: u16 = 112;
 
-pub(crate) const LAST: u16 = 121;
+pub(crate) const LAST: u16 = 123;
 
 // By task and position: the event.
-pub(crate) const NAMED: usize = 8320;
+pub(crate) const NAMED: usize = 8576;
 
 // The vectors, sixteen numbers each: safe ones, recorded ones, and recorded ones of flags.
-const VECTORS: usize = 24720;
+const VECTORS: usize = 24976;
 
 pub(crate) const SAFE: u16 = 0;
 

@@ -42,7 +42,8 @@ pub(crate) fn put_levels(out: &mut [u8], at: usize, s: &[u8]) -> usize {
     end
 }
 
-// The kind of an event by its letter: O is a post, G a flag wait; x, y and z are no kinds.
+// The kind of an event by its letter: O is a post, G a flag wait, r and w are accesses by a single
+// instruction; x, y and z are no kinds.
 fn kind_of(letter: u8) -> u8 {
     match letter {
         b'S' => 1,
@@ -53,7 +54,9 @@ fn kind_of(letter: u8) -> u8 {
         b'W' => 6,
         b'O' => 7,
         b'G' => 8,
-        b'y' => 9,
+        b'r' => 9,
+        b'w' => 10,
+        b'y' => 11,
         b'z' => 255,
         _ => 0,
     }

@@ -5,17 +5,18 @@ use native.Mathlib.Omega.{arith}
 use lib.ListN.{length}
 use Rattle.model.specs.Recording.{eventIn}
 use Rattle.model.specs.File.{eventsOf}
-use Rattle.events.specs.Chains.{isAmong, amongIn, Chained}
+use Rattle.model.specs.Pairs.{isAccessOf}
+use Rattle.events.specs.Chains.{accessOf, Chained}
 use Rattle.events.proofs.Laws.{events-length}
 use Rattle.events.proofs.Chains.{start, linked-next}
 use Rattle.events.proofs.gather_in.Statement.{statement}
 use Rattle.events.proofs.gather_in.Tie as tie
 
 abbrev Inv-loop : tie.InvT-loop
-Inv-loop records order lo hi limit i₀ none chain₀ i chain = (i ≤ length order) × Chained (amongIn records order lo hi) (length order) limit i chain
+Inv-loop records order limit i₀ none chain₀ i chain = (i ≤ length order) × Chained (accessOf records order) (length order) limit i chain
 
 abbrev μ-loop : tie.MeasureT-loop
-μ-loop records order lo hi limit i₀ none chain₀ i chain = i
+μ-loop records order limit i₀ none chain₀ i chain = i
 
 loop-holds : tie.Need-loop-holds Inv-loop μ-loop
 loop-holds c = let s = c .before .before in (omega arith, start _ _ _ (s .pre .1))
@@ -36,7 +37,7 @@ loop-again c =
     let e : k .i ≡ k .i - 1 + 1 = omega arith in (
       omega arith,
       rw (c .link .ensures)
-          (linked-next (s .args .lo) (s .args .hi) (s .args .limit) (v .result) _ _ _ _ (rw e at (k .inv .1)) (λ x. ap (isAmong (s .args .lo) (s .args .hi) x) (sym (v .ensures ∙ ap (eventIn (eventsOf (s .args .records .now))) (a .ensures))))
+          (linked-next (s .args .limit) (v .result) _ _ _ _ (rw e at (k .inv .1)) (λ x. ap (isAccessOf x) (sym (v .ensures ∙ ap (eventIn (eventsOf (s .args .records .now))) (a .ensures))))
           (s .pre .1) (s .pre .0 .few) (omega arith)),
     )
 

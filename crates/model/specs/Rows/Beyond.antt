@@ -24,7 +24,7 @@ pub record Beyond : Type 0 where
   pub no-event : event (recordingOf A) 4 ≡ record { task = 0; kind = 0; object = 0 }
   pub kind-0 : named ones (record { task = 0; kind = 0; object = 0 }) ≡ false
   pub kind-7 : named ones (record { task = 0; kind = 7; object = 0 }) ≡ false
-  pub kind-9 : named ones (record { task = 0; kind = 9; object = 0 }) ≡ false
+  pub kind-11 : named ones (record { task = 0; kind = 11; object = 0 }) ≡ false
   pub no-vector : number [] 0 0 ≡ 0
   pub no-task : number ((1 ∷ []) ∷ []) 0 1 ≡ 0
   pub no-place : place (2 ∷ 0 ∷ []) 1 ≡ 2

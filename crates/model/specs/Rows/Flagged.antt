@@ -110,13 +110,12 @@ pub record Flagged : Type 0 where
   -- in editions 1 and 2 the whole field counts semaphores
   pub field-edition-1 : Refuses (file 1 257 0 []) 4 0
   pub field-edition-2 : Refuses (pool 1 257 0 (1 ∷ 1 ∷ []) []) 3 0
-  -- editions are 1 to 3, and the kinds 7 and 8 are of edition 3, which has no further one
+  -- editions are 1 to 3, and the kinds 7 and 8 are of edition 3
   pub edition-4 : Refuses (trailer 0 0 1 0 0 4) 2 0
   pub kind-7-edition-1 : Refuses (file 1 1 1 (Post 0)) 5 0
   pub kind-8-edition-1 : Refuses (file 1 1 1 (Await 0)) 5 0
   pub kind-7-edition-2 : Refuses (pool 1 1 1 (1 ∷ []) (Post 0)) 5 0
   pub kind-8-edition-2 : Refuses (pool 1 1 1 (1 ∷ []) (Await 0)) 5 0
-  pub kind-9 : Refuses (mixed (of 9 0 0)) 5 0
   pub kind-0 : Refuses (mixed (of 0 0 0)) 5 0
   -- where two apply: 6, 7 and 16 of one record, and the first faulty record
   pub name-before-flag : Refuses (after 1 (of 8 3 0)) 6 0

@@ -10,7 +10,8 @@ use Rattle.model.specs.File.{eventsOf, recordingBy}
 use Rattle.model.specs.Vectors.{Vectors}
 use Rattle.model.specs.Pairs.{Entry}
 use Rattle.passes.specs.Lent.{vectorsIn}
-use Rattle.pairs.specs.Chains.{accessOf, Nearest}
+use Rattle.events.specs.Chains.{accessOf}
+use Rattle.pairs.specs.Chains.{Nearest}
 use Rattle.pairs.proofs.Chains.{next-place}
 use Rattle.pairs.proofs.Race.{Counted, count-more, count-skip, count-all, pairIn, row-each, behind-hit, pair-few, pair-skip, pair-start}
 use Rattle.pairs.proofs.count_row.Statement.{statement}

@@ -9,7 +9,8 @@ use Rattle.model.specs.Numbers.{each}
 use Rattle.model.specs.Pairs.{Entry, cellEntries}
 use Rattle.pairs.specs.Lent.{over, rowOf, Stored}
 use Rattle.events.specs.Chains.{head}
-use Rattle.pairs.specs.Chains.{accessOf, Nearest, InChain}
+use Rattle.events.specs.Chains.{accessOf}
+use Rattle.pairs.specs.Chains.{Nearest, InChain}
 use Rattle.pairs.proofs.Chains.{in-chain, first-place, next-place}
 use Rattle.pairs.proofs.Race.{rowIn, cell-each, row-hit, row-skip}
 use Rattle.pairs.proofs.Stores.{stored-none, stored-more, stored-skip, stored-room, stored-all}

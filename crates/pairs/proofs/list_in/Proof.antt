@@ -1,6 +1,5 @@
 -- list_in meets its contract: the chains are those of the accesses. Assumes nothing.
 use borrow.Author.Needs.{needs}
-use Rattle.pairs.proofs.Chains.{gathered}
 use Rattle.pairs.proofs.list_in.Statement.{statement}
 use Rattle.pairs.proofs.list_in.Tie as tie
 
@@ -12,7 +11,7 @@ gather-in-requires c κs =
 list-chained-requires : tie.Need-list-chained-requires
 list-chained-requires c κs =
     let s = c .before .before .before .before .before .before .before .before .before in
-    (s .pre .0, gathered _ _ _ _ (s .pre .1) (c .before .before .gather-in .ensures), s .pre .2)
+    (s .pre .0, record { along = s .pre .1; chained = c .before .before .gather-in .ensures }, s .pre .2)
 
 pub list-in-spec : {M : Type 1} → statement M
 list-in-spec =

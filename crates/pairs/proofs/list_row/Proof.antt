@@ -10,7 +10,8 @@ use Rattle.model.specs.Recording.{eventIn}
 use Rattle.model.specs.File.{eventsOf}
 use Rattle.model.specs.Pairs.{Entry, pairAt}
 use Rattle.pairs.specs.Lent.{over, rowOf, Stored}
-use Rattle.pairs.specs.Chains.{accessOf, Nearest}
+use Rattle.events.specs.Chains.{accessOf}
+use Rattle.pairs.specs.Chains.{Nearest}
 use Rattle.pairs.proofs.Chains.{next-place}
 use Rattle.pairs.proofs.Race.{pairIn, row-each, behind-hit, pair-skip, pair-start}
 use Rattle.pairs.proofs.Stores.{stored-none, stored-more, stored-skip, stored-room, stored-all}

@@ -1,4 +1,4 @@
--- `rules::last_kind` meets its contract: with flags the flag wait, else the write. Assumes nothing.
+-- `rules::last_kind` meets its contract: in the edition with flags the write by a single instruction, else the write. Assumes nothing.
 use borrow.Author.Tests.{eq-eqb, ne-eqb}
 use Rattle.model.specs.Recording.{lastKind}
 use Rattle.rules.proofs.last_kind.Statement.{statement}
