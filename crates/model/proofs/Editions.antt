@@ -12,14 +12,14 @@ use Rattle.model.specs.declared.Event.{Event}
 use Rattle.model.specs.declared.Trailer.{Trailer}
 use Rattle.model.specs.declared.Reading.{Reading}
 use Rattle.model.specs.Numbers.{filter, found}
-use Rattle.model.specs.Recording.{startOf, Recording, size, event, taskOf, kindOf, objectOf, signal, wait, read, write, flagWait, singleRead, singleWrite, waitKept, flagKept, lifeKept, obeys, hasFlags, semaphoresOf, flagsOf, lastKind, knownKind, Accepted}
+use Rattle.model.specs.Recording.{startOf, Recording, size, event, kindOf, objectOf, signal, wait, read, write, flagWait, singleRead, singleWrite, waitKept, flagKept, lifeKept, obeys, hasFlags, semaphoresOf, flagsOf, lastKind, knownKind, Accepted}
 use Rattle.model.specs.File.{trailerOf, startCount, recordingOf}
 use Rattle.model.specs.Reading.{readingOf, startsOf, postsOf}
 use Rattle.model.specs.Vectors.{Vectors, ordered}
 use Rattle.model.specs.Passes.{sources, signalsOn, kOf, needed, candidates}
 use Rattle.model.specs.Recorded.{matched, opened, causes}
 use Rattle.model.specs.Pairs.{isWrite, isAccess, isSingle, conflict}
-use Rattle.model.specs.Editions.{isPlain, AsBefore, Editions}
+use Rattle.model.specs.Editions.{isPlain, plainConflict, AsBefore, Editions}
 use Rattle.model.proofs.Tests.{cases, second, and-true, leb-true, ne-eqb}
 use Rattle.model.proofs.Accept.{kept-at}
 use Rattle.model.proofs.Files.{sound, reading-passed, trailer-read, accepted-recording, starts-met, posts-met}
@@ -87,10 +87,7 @@ module _ (E : Recording) (acc : Accepted E) (none : hasFlags (E .counts) ≡ fal
   no-single : (e : ℕ) → e < size E → isSingle (event E e) ≡ false
   no-single e l = plain-kind (kindOf E e) (few-kinds e l)
 
-  plain-conflicts : (a b : ℕ) → a < size E → b < size E
-      → conflict (event E a) (event E b)
-      ≡ (isPlain E a && isPlain E b && eqb (objectOf E a) (objectOf E b) && not (eqb (taskOf E a) (taskOf E b))
-      && (eqb (kindOf E a) write || eqb (kindOf E b) write))
+  plain-conflicts : (a b : ℕ) → a < size E → b < size E → conflict (event E a) (event E b) ≡ plainConflict E a b
   unfolding conflict
   plain-conflicts a b l m = rw (plain a l, plain b m, plain-write a l, plain-write b m, no-single a l) (and-true _)
 

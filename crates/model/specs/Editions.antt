@@ -23,6 +23,12 @@ use Rattle.model.specs.Pairs.{isSingle, conflict}
 abbrev pub isPlain : Recording → ℕ → Bool
 isPlain E e = eqb (kindOf E e) read || eqb (kindOf E e) write
 
+-- a conflict as document 01 has it
+abbrev pub plainConflict : Recording → ℕ → ℕ → Bool
+plainConflict E a b =
+    isPlain E a && isPlain E b && eqb (objectOf E a) (objectOf E b) && not (eqb (taskOf E a) (taskOf E b))
+    && (eqb (kindOf E a) write || eqb (kindOf E b) write)
+
 -- what is said of flags and of single-instruction accesses says nothing of this recording
 pub record AsBefore (E : Recording) : Type 0 where
   -- the field counts semaphores alone, and there is no post count
@@ -42,10 +48,7 @@ pub record AsBefore (E : Recording) : Type 0 where
   pub follows : (e : ℕ) → e < size E → causes (E .levels) (E .events) e ≡ sources (E .events) e ++ found (matched (E .levels) (E .events) e)
   -- no access is by a single instruction, and the conflicts are those of document 01
   pub single : (e : ℕ) → e < size E → isSingle (event E e) ≡ false
-  pub conflicts : (a b : ℕ) → a < size E → b < size E
-      → conflict (event E a) (event E b)
-      ≡ (isPlain E a && isPlain E b && eqb (objectOf E a) (objectOf E b) && not (eqb (taskOf E a) (taskOf E b))
-      && (eqb (kindOf E a) write || eqb (kindOf E b) write))
+  pub conflicts : (a b : ℕ) → a < size E → b < size E → conflict (event E a) (event E b) ≡ plainConflict E a b
 
 pub record Editions : Type 0 where
   -- in edition 1 every start count is 0

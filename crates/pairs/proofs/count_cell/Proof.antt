@@ -9,8 +9,7 @@ use Rattle.model.specs.File.{recordingBy}
 use Rattle.model.specs.Vectors.{Vectors}
 use Rattle.model.specs.Pairs.{Entry}
 use Rattle.passes.specs.Lent.{vectorsIn}
-use Rattle.events.specs.Chains.{head}
-use Rattle.events.specs.Chains.{accessOf}
+use Rattle.events.specs.Chains.{accessOf, head}
 use Rattle.pairs.specs.Chains.{Nearest, InChain}
 use Rattle.pairs.proofs.Chains.{in-chain, first-place, next-place}
 use Rattle.pairs.proofs.Race.{Counted, count-none, count-more, count-skip, count-all, rowIn, cell-each, row-few, row-hit, row-skip}

@@ -8,8 +8,7 @@ use lib.ListN.{length, getD}
 use Rattle.model.specs.Numbers.{each}
 use Rattle.model.specs.Pairs.{Entry, cellEntries}
 use Rattle.pairs.specs.Lent.{over, rowOf, Stored}
-use Rattle.events.specs.Chains.{head}
-use Rattle.events.specs.Chains.{accessOf}
+use Rattle.events.specs.Chains.{accessOf, head}
 use Rattle.pairs.specs.Chains.{Nearest, InChain}
 use Rattle.pairs.proofs.Chains.{in-chain, first-place, next-place}
 use Rattle.pairs.proofs.Race.{rowIn, cell-each, row-hit, row-skip}
