@@ -1,17 +1,17 @@
 // Whether two recordings are the same work, and which event of the second stands for which of the first.
 ghost use Rattle.std.specs.Prelude.{◌≡◌, ℕ, ◌*◌, ◌≤◌, ◌<◌, length};
-ghost use Rattle.model.specs.File.{eventsOf, recordingBy};
-ghost use Rattle.model.specs.Reading.{mostTasks, mostEvents};
-ghost use Rattle.model.specs.Together.{sameCounts, sameLevels, ownRecords, sameRecord, recordsAlike, tasksAlike, workAlike};
+ghost use Rattle.model.specs.File.{events_of, recording_by};
+ghost use Rattle.model.specs.Reading.{most_tasks, most_events};
+ghost use Rattle.model.specs.Together.{same_counts, same_levels, own_records, same_record, records_alike, tasks_alike, work_alike};
 ghost use Rattle.events.specs.Kept.{Tasked};
-ghost use Rattle.alike.specs.Alike.{sameResources, TaskChains, Counterparts};
+ghost use Rattle.alike.specs.Alike.{same_resources, TaskChains, Counterparts};
 
 use events::CHAINS;
 use model::{Check, Counts, Event, MOST_EVENTS, Refusal};
 
 // Whether the counts are the same; the editions may differ.
 fn same_counts(c: Counts, d: Counts) -> bool
-    ensures { result ≡ sameCounts c d }
+    ensures { result ≡ same_counts c d }
 {
     let semaphores = events::semaphores(c) == events::semaphores(d);
     let flags = events::flags(c) == events::flags(d);
@@ -20,7 +20,7 @@ fn same_counts(c: Counts, d: Counts) -> bool
 
 // Whether the first n level bytes, start bytes or post bytes, are the same.
 fn same_levels(first: &[u8], second: &[u8], n: u16) -> bool
-    ensures { result ≡ sameLevels first.now second.now n }
+    ensures { result ≡ same_levels first.now second.now n }
 {
     let mut i = n;
     while 0 < i {
@@ -39,7 +39,7 @@ fn same_resources(
     second_counts: Counts,
     second_levels: &[u8],
 ) -> bool
-    ensures { result ≡ sameResources first_counts first_levels.now second_counts second_levels.now }
+    ensures { result ≡ same_resources first_counts first_levels.now second_counts second_levels.now }
 {
     let counts = same_counts(first_counts, second_counts);
     let starts = same_levels(
@@ -57,7 +57,7 @@ fn same_resources(
 
 // Whether the records have the same kind and object.
 fn same_record(v: Event, w: Event) -> bool
-    ensures { result ≡ sameRecord v w }
+    ensures { result ≡ same_record v w }
 {
     (v.kind == w.kind) & (v.object == w.object)
 }
@@ -71,8 +71,8 @@ fn records_alike(
     task: u16,
 ) -> Check
     requires { TaskChains first.now first_chain.now × TaskChains second.now second_chain.now × (task < 256) }
-    ensures { result ≡ recordsAlike task 1 (ownRecords (eventsOf first.now) task)
-        (ownRecords (eventsOf second.now) task) }
+    ensures { result ≡ records_alike task 1 (own_records (events_of first.now) task)
+        (own_records (events_of second.now) task) }
 {
     let n = first.len() / 4;
     let m = second.len() / 4;
@@ -96,8 +96,8 @@ fn records_alike(
 
 // The records of the first `tasks` tasks, the lowest first.
 fn tasks_alike(first: &[u8], second: &[u8], tasks: u16) -> Check
-    requires { (length first.now ≤ 4 * mostEvents) × (length second.now ≤ 4 * mostEvents) × (tasks ≤ mostTasks) }
-    ensures { result ≡ tasksAlike (eventsOf first.now) (eventsOf second.now) tasks }
+    requires { (length first.now ≤ 4 * most_events) × (length second.now ≤ 4 * most_events) × (tasks ≤ most_tasks) }
+    ensures { result ≡ tasks_alike (events_of first.now) (events_of second.now) tasks }
 {
     let first_chain = events::gather_tasks(first);
     let second_chain = events::gather_tasks(second);
@@ -121,9 +121,9 @@ pub fn work_alike(
     second_counts: Counts,
     second_levels: &[u8],
 ) -> Check
-    requires { (length first.now ≤ 4 * mostEvents) × (length second.now ≤ 4 * mostEvents) × (first_counts.tasks ≤ mostTasks) }
-    ensures { result ≡ workAlike (recordingBy first.now first_counts first_levels.now)
-        (recordingBy second.now second_counts second_levels.now) }
+    requires { (length first.now ≤ 4 * most_events) × (length second.now ≤ 4 * most_events) × (first_counts.tasks ≤ most_tasks) }
+    ensures { result ≡ work_alike (recording_by first.now first_counts first_levels.now)
+        (recording_by second.now second_counts second_levels.now) }
 {
     if !same_resources(first_counts, first_levels, second_counts, second_levels) {
         return Check::Failed(Refusal::Differ {
@@ -137,10 +137,10 @@ pub fn work_alike(
 // For each event of the first recording the event of the second with the same task and position: the two stand at the same
 // place in the task orders.
 pub fn counterparts(first: &[u8], second: &[u8], tasks: u16) -> [u16; MOST_EVENTS]
-    requires first_len_bound { (length first.now ≤ 4 * mostEvents) × (length second.now ≤ 4 * mostEvents) × (tasks ≤ mostTasks) }
-    requires tasked { Tasked (eventsOf first.now) tasks × Tasked (eventsOf second.now) tasks }
-    requires by_index { (t : ℕ) → ownRecords (eventsOf first.now) t ≡ ownRecords (eventsOf second.now) t }
-    ensures { Counterparts (eventsOf first.now) (eventsOf second.now) result }
+    requires first_len_bound { (length first.now ≤ 4 * most_events) × (length second.now ≤ 4 * most_events) × (tasks ≤ most_tasks) }
+    requires tasked { Tasked (events_of first.now) tasks × Tasked (events_of second.now) tasks }
+    requires by_index { (t : ℕ) → own_records (events_of first.now) t ≡ own_records (events_of second.now) t }
+    ensures { Counterparts (events_of first.now) (events_of second.now) result }
 {
     let here = events::task_order(first, tasks);
     let there = events::task_order(second, tasks);

@@ -3,19 +3,19 @@
 -- Assumes nothing.
 use Rattle.std.specs.Prelude.{ℕ, ◌*◌, ◌≡◌, Bool, List, ◌++◌, length, drop}
 use Rattle.model.specs.declared.Analysis.{Analysis}
-use Rattle.model.specs.File.{recordingOf}
-use Rattle.model.specs.Passes.{passesMade, isSettled}
-use Rattle.model.specs.Pairs.{listed, entryNumbers}
+use Rattle.model.specs.File.{recording_of}
+use Rattle.model.specs.Passes.{passes_made, is_settled}
+use Rattle.model.specs.Pairs.{listed, entry_numbers}
 use Rattle.model.specs.Promise.{Promise}
 use Rattle.analysis.specs.Lent.{Analysed}
 
 -- of the file f with the budget b: passes made, settled and pairs as answered, and the list as it was and as it is left
 pub record Handed (f : List ℕ) (b m : ℕ) (s : Bool) (n : ℕ) (l l' : List ℕ) : Type 0 where
-  pub passes : m ≡ passesMade (recordingOf f) b
-  pub settled : s ≡ isSettled (recordingOf f) b
-  pub pairs : n ≡ length (listed (recordingOf f) b)
-  pub entries : l' ≡ entryNumbers (listed (recordingOf f) b) ++ drop (3 * n) l
-  pub promise : Promise (recordingOf f) b
+  pub passes : m ≡ passes_made (recording_of f) b
+  pub settled : s ≡ is_settled (recording_of f) b
+  pub pairs : n ≡ length (listed (recording_of f) b)
+  pub entries : l' ≡ entry_numbers (listed (recording_of f) b) ++ drop (3 * n) l
+  pub promise : Promise (recording_of f) b
 
 -- the statement, proved as `handed` in proofs/Handed.antt
 abbrev pub HandedBack : Type 0

@@ -3,16 +3,16 @@
 use Rattle.std.specs.Prelude.{ℕ, ◌≡◌, List}
 use Rattle.model.specs.declared.Analysis.{Analysis}
 use Rattle.model.specs.declared.Answer.{Answer}
-use Rattle.model.specs.Analysing.{analysisOf, workAfterAnalysing, listAfterAnalysing}
-use Rattle.model.specs.Question.{answer_of, workAfterAsking}
+use Rattle.model.specs.Analysing.{analysis_of, work_after_analysing, list_after_analysing}
+use Rattle.model.specs.Question.{answer_of, work_after_asking}
 
 -- analysing the file f with the budget b answers a, and leaves w' in the work numbers w and l' in the list l
 pub record Analysed (f : List ℕ) (b : ℕ) (w l : List ℕ) (a : Analysis) (w' l' : List ℕ) : Type 0 where
-  pub answer : a ≡ analysisOf f b w l
-  pub work : w' ≡ workAfterAnalysing f b w
-  pub list : l' ≡ listAfterAnalysing f b w l
+  pub answer : a ≡ analysis_of f b w l
+  pub work : w' ≡ work_after_analysing f b w
+  pub list : l' ≡ list_after_analysing f b w l
 
 -- a question about the events x and y of the file f answers a, and leaves w' in the work numbers w
 pub record Asked (f : List ℕ) (x y b : ℕ) (w : List ℕ) (a : Answer) (w' : List ℕ) : Type 0 where
   pub answer : a ≡ answer_of f x y b w
-  pub work : w' ≡ workAfterAsking f x y b w
+  pub work : w' ≡ work_after_asking f x y b w

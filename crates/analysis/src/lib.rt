@@ -2,8 +2,8 @@
 ghost use Rattle.std.specs.Prelude.{◌≡◌};
 ghost use Rattle.model.specs.Recording.{Recording, size};
 ghost use Rattle.model.specs.Reading.{reading_of};
-ghost use Rattle.model.specs.Analysing.{done, analysisOf, workAfterAnalysing, listAfterAnalysing};
-ghost use Rattle.model.specs.Question.{answer_of, workAfterAsking};
+ghost use Rattle.model.specs.Analysing.{done, analysis_of, work_after_analysing, list_after_analysing};
+ghost use Rattle.model.specs.Question.{answer_of, work_after_asking};
 ghost use Rattle.analysis.specs.Lent.{Analysed, Asked};
 
 use model::{Analysis, Answer, Check, Reading, Refusal, Trailer};
@@ -65,9 +65,9 @@ fn analyse_read(
 // Analyses a recording file with a budget of passes. The work numbers are left with the safe and the recorded vectors, the
 // list with its entries; a refusal leaves them as they were, but 10 (list) leaves the work numbers filled.
 pub fn analyse(file: &[u8], budget: u32, work: &mut [u16], list: &mut [u16]) -> Analysis
-    ensures value { result ≡ analysisOf file.now budget work.old list.old }
-    ensures work_after { work.new ≡ workAfterAnalysing file.now budget work.old }
-    ensures list_after { list.new ≡ listAfterAnalysing file.now budget work.old list.old }
+    ensures value { result ≡ analysis_of file.now budget work.old list.old }
+    ensures work_after { work.new ≡ work_after_analysing file.now budget work.old }
+    ensures list_after { list.new ≡ list_after_analysing file.now budget work.old list.old }
 {
     match recording::read(file) {
         Reading::Accepted(trailer) => analyse_read(file, trailer, budget, work, list),
@@ -101,7 +101,7 @@ fn ask_read(
 // analysing; a refusal leaves them as they were.
 pub fn ask(file: &[u8], a: usize, b: usize, budget: u32, work: &mut [u16]) -> Answer
     ensures value { result ≡ answer_of file.now a b budget work.old }
-    ensures work_after { work.new ≡ workAfterAsking file.now a b budget work.old }
+    ensures work_after { work.new ≡ work_after_asking file.now a b budget work.old }
 {
     match recording::read(file) {
         Reading::Accepted(trailer) => ask_read(file, trailer, a, b, budget, work),

@@ -8,15 +8,15 @@ use native.Mathlib.Omega.{arith}
 use lib.ListN.{length, set, take, drop, length-append}
 use lib.Seq.{sets, take-append_seam}
 use Rattle.model.specs.Numbers.{each, picked}
-use Rattle.model.specs.File.{eventsOf}
-use Rattle.model.specs.Pairs.{ownEvents, taskOrder}
+use Rattle.model.specs.File.{events_of}
+use Rattle.model.specs.Pairs.{own_events, task_order}
 use Rattle.model.specs.declared.Event.{Event}
-use Rattle.model.proofs.Each.{each_more, each-skip, each-count, each-longer}
-use Rattle.model.proofs.Stores.{sets-append, sets-front}
-use Rattle.model.proofs.TaskOrder.{order-length}
-use Rattle.events.specs.Chains.{byTask, Nearest}
+use Rattle.model.proofs.Each.{each_more, each_skip, each_count, each_longer}
+use Rattle.model.proofs.Stores.{sets-append, sets_front}
+use Rattle.model.proofs.TaskOrder.{order_length}
+use Rattle.events.specs.Chains.{by_task, Nearest}
 use Rattle.events.specs.Kept.{Tasked}
-use Rattle.events.proofs.Laws.{events-length}
+use Rattle.events.proofs.Laws.{events_length}
 
 -- ---- one task's events
 
@@ -29,15 +29,15 @@ module _ (p : ℕ → Bool) where
   picked_more e t = each_more one e ∙ rw t
 
   -- what a chain passes over is not picked
-  pub picked-skip : (n m b : ℕ) → Nearest p n m b → picked p b ≡ picked p m
+  pub picked_skip : (n m b : ℕ) → Nearest p n m b → picked p b ≡ picked p m
   unfolding picked
-  picked-skip n m b r = each-skip one m b r.low (λ i l u. rw (r.passed i l u))
+  picked_skip n m b r = each_skip one m b r.low (λ i l u. rw (r.passed i l u))
 
   -- there is room for one more where there is for all
-  pub picked-room : (e n : ℕ) → e < n → p e ≡ true → length (picked p e) < length (picked p n)
+  pub picked_room : (e n : ℕ) → e < n → p e ≡ true → length (picked p e) < length (picked p n)
   unfolding picked
-  picked-room e n h t =
-      omega (arith, each-longer one (e + 1) n (omega arith), each-count one e, ap length (here t))
+  picked_room e n h t =
+      omega (arith, each_longer one (e + 1) n (omega arith), each_count one e, ap length (here t))
     where
       here : p e ≡ true → one e ≡ e ∷ []
       here t = rw t
@@ -47,31 +47,31 @@ module _ (p : ℕ → Bool) where
     pub put_next : (old out : List ℕ) (at i : ℕ) → out ≡ sets old at (picked p e) → i ≡ at + length (picked p e)
         → (set out i e ≡ sets old at (picked p b)) × (i + 1 ≡ at + length (picked p b))
     put_next old out at i q j =
-        let all = picked-skip n (e + 1) b r ∙ picked_more e t in
+        let all = picked_skip n (e + 1) b r ∙ picked_more e t in
         (rw (all, sets-append (picked p e) (e ∷ []) old at, q, j), omega (arith, ap length all, length-append (picked p e) (e ∷ [])))
 
 -- a task's events are those picked from all
-pub own-events : (s : List ℕ) (t n : ℕ) → n ≡ length s / 4 → picked (byTask s t) n ≡ ownEvents (eventsOf s) t
-own-events s t n q = ap (picked (byTask s t)) (q ∙ sym (events-length s))
+pub own_events_lem : (s : List ℕ) (t n : ℕ) → n ≡ length s / 4 → picked (by_task s t) n ≡ own_events (events_of s) t
+own_events_lem s t n q = ap (picked (by_task s t)) (q ∙ sym (events_length s))
 
 -- ---- all tasks
 
 -- one task more
-pub task-next : (l : List Event) (t : ℕ) (old out new : List ℕ) (at i : ℕ) → out ≡ sets old 0 (each (ownEvents l) t) → at ≡ length (each (ownEvents l) t)
-    → new ≡ sets out at (ownEvents l t) → i ≡ at + length (ownEvents l t)
-    → (new ≡ sets old 0 (each (ownEvents l) (t + 1))) × (i ≡ length (each (ownEvents l) (t + 1)))
-task-next l t old out new at i q j r k = (
-  r ∙ rw (each_more (ownEvents l) t, sets-append (each (ownEvents l) t) (ownEvents l t) old 0, zero-add (length (each (ownEvents l) t)), q, j),
-  omega (arith, each-count (ownEvents l) t),
+pub task_next : (l : List Event) (t : ℕ) (old out new : List ℕ) (at i : ℕ) → out ≡ sets old 0 (each (own_events l) t) → at ≡ length (each (own_events l) t)
+    → new ≡ sets out at (own_events l t) → i ≡ at + length (own_events l t)
+    → (new ≡ sets old 0 (each (own_events l) (t + 1))) × (i ≡ length (each (own_events l) (t + 1)))
+task_next l t old out new at i q j r k = (
+  r ∙ rw (each_more (own_events l) t, sets-append (each (own_events l) t) (own_events l t) old 0, zero-add (length (each (own_events l) t)), q, j),
+  omega (arith, each_count (own_events l) t),
 )
 
 module _ (l : List Event) (tasks : ℕ) (named : Tasked l tasks) where
-  pub task-room : (t : ℕ) → t < tasks → length (each (ownEvents l) t) + length (ownEvents l t) ≤ length l
-  unfolding taskOrder
-  task-room t h = omega (arith, each-count (ownEvents l) t, each-longer (ownEvents l) (t + 1) tasks (omega arith), order-length l tasks named)
+  pub task_room : (t : ℕ) → t < tasks → length (each (own_events l) t) + length (own_events l t) ≤ length l
+  unfolding task_order
+  task_room t h = omega (arith, each_count (own_events l) t, each_longer (own_events l) (t + 1) tasks (omega arith), order_length l tasks named)
 
-  pub whole-order : (old out : List ℕ) → length l ≤ length old → out ≡ sets old 0 (each (ownEvents l) tasks) → take (length l) out ≡ taskOrder l tasks
-  unfolding taskOrder
-  whole-order old out h q =
-      let n = order-length l tasks named in
-      rw (q ∙ sets-front old (each (ownEvents l) tasks) (length l) n h, ← n) (take-append_seam (each (ownEvents l) tasks) (drop (length (each (ownEvents l) tasks)) old))
+  pub whole_order : (old out : List ℕ) → length l ≤ length old → out ≡ sets old 0 (each (own_events l) tasks) → take (length l) out ≡ task_order l tasks
+  unfolding task_order
+  whole_order old out h q =
+      let n = order_length l tasks named in
+      rw (q ∙ sets_front old (each (own_events l) tasks) (length l) n h, ← n) (take-append_seam (each (own_events l) tasks) (drop (length (each (own_events l) tasks)) old))

@@ -4,9 +4,9 @@ use Rattle.std.specs.Prelude.{ℕ, zero, suc, ◌*◌, ◌/◌, ◌%◌, ◌≤�
 use Rattle.model.specs.declared.Event.{Event}
 use Rattle.model.specs.declared.Found.{Found}
 use Rattle.model.specs.Numbers.{last_of}
-use Rattle.model.specs.Recording.{eventIn, isFork, join}
+use Rattle.model.specs.Recording.{event_in, is_fork, join}
 use Rattle.model.specs.Vectors.{position}
-use Rattle.model.specs.Passes.{forkOf, lastEvent, beforeOrFork}
+use Rattle.model.specs.Passes.{fork_of, last_event, before_or_fork}
 
 -- the position of each event
 pub record Positions (l : List Event) (kept : List ℕ) : Type 0 where
@@ -15,7 +15,7 @@ pub record Positions (l : List Event) (kept : List ℕ) : Type 0 where
 
 -- the task of each event
 abbrev pub KeptTasks : List Event → List ℕ → Type 0
-KeptTasks l kept = (e : ℕ) → e < length l → get_or kept e 0 ≡ (eventIn l e).task
+KeptTasks l kept = (e : ℕ) → e < length l → get_or kept e 0 ≡ (event_in l e).task
 
 -- a found event is below n
 abbrev pub Below : ℕ → Found → Type 0
@@ -23,32 +23,32 @@ Below n (Found.At a) = a < n
 Below n Found.Nothing = Unit {0}
 
 -- an event of n as a number: n, which is no event's, where none was found
-abbrev pub foundBelow : ℕ → ℕ → Found
-foundBelow n a = cond (ltb a n) (Found.At a) Found.Nothing
+abbrev pub found_below : ℕ → ℕ → Found
+found_below n a = cond (ltb a n) (Found.At a) Found.Nothing
 
 -- the last fork among the first e events, of each task that is a byte
 abbrev pub ForksTo : List Event → ℕ → List ℕ → Type 0
-ForksTo l e kept = (t : ℕ) → t < 256 → foundBelow (length l) (get_or kept t 0) ≡ last_of (λ a. isFork t (eventIn l a)) e
+ForksTo l e kept = (t : ℕ) → t < 256 → found_below (length l) (get_or kept t 0) ≡ last_of (λ a. is_fork t (event_in l a)) e
 
 -- the fork of each task that is a byte
 abbrev pub KeptForks : List Event → List ℕ → Type 0
 KeptForks l kept = ForksTo l (length l) kept
 
 -- where e is a join, this event
-abbrev pub ofJoin : List Event → ℕ → Found → Found
-ofJoin l e f = cond (eqb (eventIn l e).kind join) f Found.Nothing
+abbrev pub of_join : List Event → ℕ → Found → Found
+of_join l e f = cond (eqb (event_in l e).kind join) f Found.Nothing
 
 -- source j of e: the event before or the fork, and for a join the fork and the last event of its task
 unfoldable pub source_of : List Event → ℕ → ℕ → Found
-source_of l e zero = beforeOrFork l e
-source_of l e (suc zero) = ofJoin l e (forkOf l (eventIn l e).object)
-source_of l e (suc (suc j)) = ofJoin l e (lastEvent l (eventIn l e).object)
+source_of l e zero = before_or_fork l e
+source_of l e (suc zero) = of_join l e (fork_of l (event_in l e).object)
+source_of l e (suc (suc j)) = of_join l e (last_event l (event_in l e).object)
 
 -- the sources of each event, three places for each
 pub record Sources (l : List Event) (kept : List ℕ) : Type 0 where
   pub low : (i : ℕ) → get_or kept i 0 ≤ length l
-  pub source : (i : ℕ) → i < 3 * length l → foundBelow (length l) (get_or kept i 0) ≡ source_of l (i / 3) (i % 3)
+  pub source : (i : ℕ) → i < 3 * length l → found_below (length l) (get_or kept i 0) ≡ source_of l (i / 3) (i % 3)
 
 -- each event is of a task below k
 abbrev pub Tasked : List Event → ℕ → Type 0
-Tasked l k = (e : ℕ) → e < length l → (eventIn l e).task < k
+Tasked l k = (e : ℕ) → e < length l → (event_in l e).task < k

@@ -4,14 +4,14 @@
 ghost use Rattle.std.specs.Prelude.{◌≡◌, ◌+◌, ◌*◌, ◌/◌, ◌≤◌, ◌<◌, eqb, length, get_or, take};
 ghost use Rattle.std.proofs.lemmas.List.Edits.{sets};
 ghost use Rattle.model.specs.Numbers.{last_of};
-ghost use Rattle.model.specs.Recording.{start_of, post_of, semaphoresOf, flags_of, eventIn, ofTask, isOn};
-ghost use Rattle.model.specs.File.{u16At, eventsOf, recordBytes, startCount, levelCount, levelBytes, levelsBy};
-ghost use Rattle.model.specs.Reading.{mostTasks, mostCells, mostEvents};
-ghost use Rattle.model.specs.Passes.{forkOf, lastEvent, beforeOrFork};
-ghost use Rattle.model.specs.LastEvent.{recordsRead, NoneAfterJoin};
-ghost use Rattle.model.specs.Pairs.{isRead, isWrite, isAccess, isSingle, ownEvents, taskOrder};
-ghost use Rattle.events.specs.Chains.{accessOf, byTask, Along, putFirst, linked, Chained, slotOf, slots, head, Gathered};
-ghost use Rattle.events.specs.Kept.{Positions, KeptTasks, Below, foundBelow, KeptForks, ofJoin, Sources, Tasked};
+ghost use Rattle.model.specs.Recording.{start_of, post_of, semaphores_of, flags_of, event_in, of_task, is_on};
+ghost use Rattle.model.specs.File.{u16_at, events_of, record_bytes, start_count, level_count, level_bytes, levels_by};
+ghost use Rattle.model.specs.Reading.{most_tasks, most_cells, most_events};
+ghost use Rattle.model.specs.Passes.{fork_of, last_event, before_or_fork};
+ghost use Rattle.model.specs.LastEvent.{records_read, NoneAfterJoin};
+ghost use Rattle.model.specs.Pairs.{is_read, is_write, is_access, is_single, own_events, task_order};
+ghost use Rattle.events.specs.Chains.{access_of, by_task, Along, put_first, linked, Chained, slot_of, slots, head, Gathered};
+ghost use Rattle.events.specs.Kept.{Positions, KeptTasks, Below, found_below, KeptForks, of_join, Sources, Tasked};
 
 use model::{
     Counts, Event, FORK, Found, JOIN, MOST_EVENTS, MOST_FLAGS, MOST_SEMAPHORES, POST, READ, SIGNAL,
@@ -21,7 +21,7 @@ use model::{
 // The number of two bytes, little-endian.
 pub fn u16_at(s: &[u8], i: usize) -> u16
     requires { i + 1 < length s.now }
-    ensures { result ≡ u16At s.now i }
+    ensures { result ≡ u16_at s.now i }
 {
     (s[i] as u16) + 256 * (s[i + 1] as u16)
 }
@@ -29,7 +29,7 @@ pub fn u16_at(s: &[u8], i: usize) -> u16
 // The records' part of a file with this trailer.
 pub fn records_of(file: &[u8], trailer: Trailer) -> &[u8]
     requires { trailer.start + 4 * trailer.records ≤ length file.now }
-    ensures { result.now ≡ recordBytes file.now trailer }
+    ensures { result.now ≡ record_bytes file.now trailer }
 {
     let start = trailer.start;
     let stop = start + 4 * trailer.records;
@@ -38,7 +38,7 @@ pub fn records_of(file: &[u8], trailer: Trailer) -> &[u8]
 
 // How many semaphores a recording with these counts has: with flags, the low byte of the field.
 pub fn semaphores(counts: Counts) -> u16
-    ensures { result ≡ semaphoresOf counts }
+    ensures { result ≡ semaphores_of counts }
 {
     if counts.edition == WITH_FLAGS {
         return counts.semaphores % 256;
@@ -58,7 +58,7 @@ pub fn flags(counts: Counts) -> u16
 
 // How many start bytes a file with these counts has.
 pub fn start_count(counts: Counts) -> usize
-    ensures { (result ≡ startCount counts) × (result < 65536) }
+    ensures { (result ≡ start_count counts) × (result < 65536) }
 {
     if counts.edition == 1 {
         return 0;
@@ -68,15 +68,15 @@ pub fn start_count(counts: Counts) -> usize
 
 // How many level bytes it has between its records and its trailer.
 pub fn level_count(counts: Counts) -> usize
-    ensures { (result ≡ levelCount counts) × (result < 131072) }
+    ensures { (result ≡ level_count counts) × (result < 131072) }
 {
     start_count(counts) + (flags(counts) as usize)
 }
 
 // The level bytes of a file with this trailer.
 pub fn levels_of(file: &[u8], trailer: Trailer) -> &[u8]
-    requires { trailer.start + 4 * trailer.records + levelCount trailer.counts ≤ length file.now }
-    ensures { result.now ≡ levelBytes file.now trailer }
+    requires { trailer.start + 4 * trailer.records + level_count trailer.counts ≤ length file.now }
+    ensures { result.now ≡ level_bytes file.now trailer }
 {
     let start = trailer.start + 4 * trailer.records;
     let stop = start + level_count(trailer.counts);
@@ -85,7 +85,7 @@ pub fn levels_of(file: &[u8], trailer: Trailer) -> &[u8]
 
 // The start bytes among the level bytes.
 pub fn start_bytes(levels: &[u8], counts: Counts) -> &[u8]
-    ensures { result.now ≡ (levelsBy counts levels.now).starts }
+    ensures { result.now ≡ (levels_by counts levels.now).starts }
 {
     let n = start_count(counts);
     if n < levels.len() {
@@ -96,7 +96,7 @@ pub fn start_bytes(levels: &[u8], counts: Counts) -> &[u8]
 
 // The post bytes, which are the others.
 pub fn post_bytes(levels: &[u8], counts: Counts) -> &[u8]
-    ensures { result.now ≡ (levelsBy counts levels.now).posts }
+    ensures { result.now ≡ (levels_by counts levels.now).posts }
 {
     let n = start_count(counts);
     if n < levels.len() {
@@ -118,14 +118,14 @@ pub fn level_at(bytes: &[u8], i: u16) -> u16
 
 // The start count of semaphore s.
 pub fn start_of(levels: &[u8], counts: Counts, s: u16) -> u16
-    ensures { result ≡ start_of (levelsBy counts levels.now) s }
+    ensures { result ≡ start_of (levels_by counts levels.now) s }
 {
     level_at(start_bytes(levels, counts), s)
 }
 
 // The post count of flag g.
 pub fn post_of(levels: &[u8], counts: Counts, g: u16) -> u16
-    ensures { result ≡ post_of (levelsBy counts levels.now) g }
+    ensures { result ≡ post_of (levels_by counts levels.now) g }
 {
     level_at(post_bytes(levels, counts), g)
 }
@@ -133,7 +133,7 @@ pub fn post_of(levels: &[u8], counts: Counts, g: u16) -> u16
 // Event e, which is record e.
 pub fn event_at(records: &[u8], e: usize) -> Event
     requires { 4 * e + 3 < length records.now }
-    ensures { result ≡ eventIn (eventsOf records.now) e }
+    ensures { result ≡ event_in (events_of records.now) e }
 {
     let at = 4 * e;
     Event {
@@ -145,28 +145,28 @@ pub fn event_at(records: &[u8], e: usize) -> Event
 
 // Whether the event is a read, plain or by a single instruction.
 fn is_read(v: Event) -> bool
-    ensures { result ≡ isRead v }
+    ensures { result ≡ is_read v }
 {
     (v.kind == READ) | (v.kind == SINGLE_READ)
 }
 
 // Whether it is a write, plain or by a single instruction.
 pub fn is_write(v: Event) -> bool
-    ensures { result ≡ isWrite v }
+    ensures { result ≡ is_write v }
 {
     (v.kind == WRITE) | (v.kind == SINGLE_WRITE)
 }
 
 // Whether it is an access: a read or a write.
 pub fn is_access(v: Event) -> bool
-    ensures { result ≡ isAccess v }
+    ensures { result ≡ is_access v }
 {
     is_read(v) | is_write(v)
 }
 
 // Whether it is an access by a single instruction.
 pub fn is_single(v: Event) -> bool
-    ensures { result ≡ isSingle v }
+    ensures { result ≡ is_single v }
 {
     (v.kind == SINGLE_READ) | (v.kind == SINGLE_WRITE)
 }
@@ -174,7 +174,7 @@ pub fn is_single(v: Event) -> bool
 // Whether event e has this kind and this object.
 pub fn is_on(records: &[u8], e: usize, kind: u8, object: u16) -> bool
     requires { 4 * e + 3 < length records.now }
-    ensures { result ≡ isOn kind object (eventIn (eventsOf records.now) e) }
+    ensures { result ≡ is_on kind object (event_in (events_of records.now) e) }
 {
     let v = event_at(records, e);
     (v.kind == kind) & (v.object == object)
@@ -183,7 +183,7 @@ pub fn is_on(records: &[u8], e: usize, kind: u8, object: u16) -> bool
 // Whether event e is this task's.
 fn is_of_task(records: &[u8], e: usize, task: u16) -> bool
     requires { 4 * e + 3 < length records.now }
-    ensures { result ≡ ofTask task (eventIn (eventsOf records.now) e) }
+    ensures { result ≡ of_task task (event_in (events_of records.now) e) }
 {
     let v = event_at(records, e);
     v.task as u16 == task
@@ -192,7 +192,7 @@ fn is_of_task(records: &[u8], e: usize, task: u16) -> bool
 // The last of the first n events with this kind and this object.
 pub fn last_on(records: &[u8], n: usize, kind: u8, object: u16) -> Found
     requires { 4 * n ≤ length records.now }
-    ensures { result ≡ last_of (λ a. isOn kind object (eventIn (eventsOf records.now) a)) n }
+    ensures { result ≡ last_of (λ a. is_on kind object (event_in (events_of records.now) a)) n }
 {
     let mut i = n;
     while 0 < i {
@@ -214,8 +214,8 @@ pub struct Look {
 // The last record of this task in a part of the records, by its number within the part, and how many records were read: the
 // look goes back from the part's end and stops at the first hit. Bytes behind the last whole record are no record.
 pub fn last_event(part: &[u8], task: u16) -> Look
-    ensures last_value { result.last ≡ lastEvent (eventsOf part.now) task }
-    ensures read_value { result.read ≡ recordsRead (eventsOf part.now) task }
+    ensures last_value { result.last ≡ last_event (events_of part.now) task }
+    ensures read_value { result.read ≡ records_read (events_of part.now) task }
 {
     let mut left = part.len() / 4;
     let mut read = 0;
@@ -238,8 +238,8 @@ pub fn last_event(part: &[u8], task: u16) -> Look
 
 // The position of each event, in one look: `own` counts the records passed of each task, which is a byte.
 pub fn positions(records: &[u8]) -> [u16; MOST_EVENTS]
-    requires { length records.now ≤ 4 * mostEvents }
-    ensures { Positions (eventsOf records.now) result }
+    requires { length records.now ≤ 4 * most_events }
+    ensures { Positions (events_of records.now) result }
 {
     let n = records.len() / 4;
     let mut positions = [0u16; MOST_EVENTS];
@@ -257,8 +257,8 @@ pub fn positions(records: &[u8]) -> [u16; MOST_EVENTS]
 
 // The task of each event, in one look.
 fn kept_tasks(records: &[u8]) -> [u8; MOST_EVENTS]
-    requires { length records.now ≤ 4 * mostEvents }
-    ensures { KeptTasks (eventsOf records.now) result }
+    requires { length records.now ≤ 4 * most_events }
+    ensures { KeptTasks (events_of records.now) result }
 {
     let n = records.len() / 4;
     let mut tasks = [0u8; MOST_EVENTS];
@@ -273,8 +273,8 @@ fn kept_tasks(records: &[u8]) -> [u8; MOST_EVENTS]
 // The last of the first n events that is this task's, found by a call on the record one lower; a number that no event has where
 // there is none.
 fn task_before(tasks: &[u8; MOST_EVENTS], n: usize, task: u8) -> usize
-    requires { n ≤ mostEvents }
-    ensures { foundBelow mostEvents result ≡ last_of (λ a. eqb (get_or tasks.now a 0) task) n }
+    requires { n ≤ most_events }
+    ensures { found_below most_events result ≡ last_of (λ a. eqb (get_or tasks.now a 0) task) n }
 {
     if n == 0 {
         return MOST_EVENTS;
@@ -288,8 +288,8 @@ fn task_before(tasks: &[u8; MOST_EVENTS], n: usize, task: u8) -> usize
 
 // The last fork of each task that is a byte, in one look; the number of all events where there is none.
 fn kept_forks(records: &[u8]) -> [u16; 256]
-    requires { length records.now ≤ 4 * mostEvents }
-    ensures { KeptForks (eventsOf records.now) result }
+    requires { length records.now ≤ 4 * most_events }
+    ensures { KeptForks (events_of records.now) result }
 {
     let n = records.len() / 4;
     let mut forks = [n as u16; 256];
@@ -306,8 +306,8 @@ fn kept_forks(records: &[u8]) -> [u16; 256]
 
 // The fork of a task; of one that is no byte, and so has no record, it is searched for.
 fn fork_of(records: &[u8], forks: &[u16; 256], task: u16) -> Found
-    requires { KeptForks (eventsOf records.now) forks.now }
-    ensures { (result ≡ forkOf (eventsOf records.now) task) × Below (length records.now / 4) result }
+    requires { KeptForks (events_of records.now) forks.now }
+    ensures { (result ≡ fork_of (events_of records.now) task) × Below (length records.now / 4) result }
 {
     let n = records.len() / 4;
     if task < 256 {
@@ -318,9 +318,9 @@ fn fork_of(records: &[u8], forks: &[u16; 256], task: u16) -> Found
 
 // The event before e in its task, or for the first event of a task the fork.
 fn before_or_fork(records: &[u8], tasks: &[u8; MOST_EVENTS], forks: &[u16; 256], e: usize) -> Found
-    requires kept_tasks { KeptTasks (eventsOf records.now) tasks.now × KeptForks (eventsOf records.now) forks.now }
-    requires records_len_bound { (length records.now ≤ 4 * mostEvents) × (4 * e + 3 < length records.now) }
-    ensures { (result ≡ beforeOrFork (eventsOf records.now) e) × Below (length records.now / 4) result }
+    requires kept_tasks { KeptTasks (events_of records.now) tasks.now × KeptForks (events_of records.now) forks.now }
+    requires records_len_bound { (length records.now ≤ 4 * most_events) × (4 * e + 3 < length records.now) }
+    ensures { (result ≡ before_or_fork (events_of records.now) e) × Below (length records.now / 4) result }
 {
     let task = tasks[e];
     let before = task_before(tasks, e, task);
@@ -332,8 +332,8 @@ fn before_or_fork(records: &[u8], tasks: &[u8; MOST_EVENTS], forks: &[u16; 256],
 
 // For a join, the fork of the task that is joined.
 fn join_fork(records: &[u8], forks: &[u16; 256], e: usize) -> Found
-    requires { KeptForks (eventsOf records.now) forks.now × (4 * e + 3 < length records.now) }
-    ensures { (result ≡ ofJoin (eventsOf records.now) e (forkOf (eventsOf records.now) (eventIn (eventsOf records.now) e).object))
+    requires { KeptForks (events_of records.now) forks.now × (4 * e + 3 < length records.now) }
+    ensures { (result ≡ of_join (events_of records.now) e (fork_of (events_of records.now) (event_in (events_of records.now) e).object))
         × Below (length records.now / 4) result }
 {
     let j = event_at(records, e);
@@ -345,8 +345,8 @@ fn join_fork(records: &[u8], forks: &[u16; 256], e: usize) -> Found
 
 // For a join, the last event of the task that is joined: none follows the join, so the look goes back from there.
 fn join_last(records: &[u8], e: usize) -> Found
-    requires { NoneAfterJoin (eventsOf records.now) × (4 * e + 3 < length records.now) }
-    ensures { (result ≡ ofJoin (eventsOf records.now) e (lastEvent (eventsOf records.now) (eventIn (eventsOf records.now) e).object))
+    requires { NoneAfterJoin (events_of records.now) × (4 * e + 3 < length records.now) }
+    ensures { (result ≡ of_join (events_of records.now) e (last_event (events_of records.now) (event_in (events_of records.now) e).object))
         × Below (length records.now / 4) result }
 {
     let j = event_at(records, e);
@@ -359,8 +359,8 @@ fn join_last(records: &[u8], e: usize) -> Found
 
 // A found event of n as a number: n where none was found.
 fn number_of(found: Found, n: usize) -> u16
-    requires { Below n found × (n ≤ mostEvents) }
-    ensures { (foundBelow n result ≡ found) × (result ≤ n) }
+    requires { Below n found × (n ≤ most_events) }
+    ensures { (found_below n result ≡ found) × (result ≤ n) }
 {
     match found {
         Found::At(a) => a as u16,
@@ -370,7 +370,7 @@ fn number_of(found: Found, n: usize) -> u16
 
 // And back.
 pub fn found_below(n: usize, a: u16) -> Found
-    ensures { (result ≡ foundBelow n a) × Below n result }
+    ensures { (result ≡ found_below n a) × Below n result }
 {
     if (a as usize) < n {
         return Found::At(a as usize);
@@ -384,8 +384,8 @@ pub const SOURCES: usize = 3072;
 // The sources of each event: the event before or the fork, and for a join the fork and the last event of its task. One search
 // for each event before: a record is passed by at most one search of each task.
 pub fn sources(records: &[u8]) -> [u16; SOURCES]
-    requires { (length records.now ≤ 4 * mostEvents) × NoneAfterJoin (eventsOf records.now) }
-    ensures { Sources (eventsOf records.now) result }
+    requires { (length records.now ≤ 4 * most_events) × NoneAfterJoin (events_of records.now) }
+    ensures { Sources (events_of records.now) result }
 {
     let n = records.len() / 4;
     let tasks = kept_tasks(records);
@@ -406,8 +406,8 @@ pub const CHAINS: usize = 2048;
 
 // Puts place i first in the chain of object x.
 fn put_first(chain: &mut [u16; CHAINS], x: u16, i: usize)
-    requires { (x < mostCells) × (i < mostEvents) }
-    ensures { chain.new ≡ putFirst x i chain.old }
+    requires { (x < most_cells) × (i < most_events) }
+    ensures { chain.new ≡ put_first x i chain.old }
 {
     let head = MOST_EVENTS + (x as usize);
     chain[i] = chain[head];
@@ -416,7 +416,7 @@ fn put_first(chain: &mut [u16; CHAINS], x: u16, i: usize)
 
 // Puts place i, that of the event v, first in the chain of its cell, where it is an access of one below `limit`.
 fn link(v: Event, limit: u16, i: usize, chain: &mut [u16; CHAINS])
-    requires { (limit ≤ mostCells) × (i < mostEvents) }
+    requires { (limit ≤ most_cells) × (i < most_events) }
     ensures { chain.new ≡ linked limit v i chain.old }
 {
     if !is_access(v) | (limit <= v.object) {
@@ -435,7 +435,7 @@ const OTHERS: u16 = 192;
 
 // The slot of the events of this kind on object x.
 pub fn slot_of(kind: u8, x: u16) -> u16
-    ensures { (result ≡ slotOf kind x) × (result ≤ slots) }
+    ensures { (result ≡ slot_of kind x) × (result ≤ slots) }
 {
     if (kind == SIGNAL) & (x < MOST_SEMAPHORES) {
         return x;
@@ -451,7 +451,7 @@ pub fn slot_of(kind: u8, x: u16) -> u16
 
 // Gathers all events in the chains of their slots, from the last event to the first.
 pub fn gather(records: &[u8]) -> [u16; CHAINS]
-    requires { length records.now ≤ 4 * mostEvents }
+    requires { length records.now ≤ 4 * most_events }
     ensures { Gathered records.now result }
 {
     let n = records.len() / 4;
@@ -467,7 +467,7 @@ pub fn gather(records: &[u8]) -> [u16; CHAINS]
 
 // The first event in the slot of this kind on object x; in gathered chains the number of all events where there is none.
 pub fn first_on(chain: &[u16; CHAINS], kind: u8, x: u16) -> usize
-    ensures { result ≡ get_or chain.now (head (slotOf kind x)) 0 }
+    ensures { result ≡ get_or chain.now (head (slot_of kind x)) 0 }
 {
     at_place(chain, MOST_EVENTS + (slot_of(kind, x) as usize))
 }
@@ -482,8 +482,8 @@ pub fn at_place(order: &[u16], i: usize) -> usize
 
 // Gathers the accesses of each cell along an order of the events: the chains are of places in it.
 pub fn gather_in(records: &[u8], order: &[u16], limit: u16) -> [u16; CHAINS]
-    requires { Along records.now order.now × (limit ≤ mostCells) }
-    ensures { Chained (accessOf records.now order.now) (length order.now) limit 0 result }
+    requires { Along records.now order.now × (limit ≤ most_cells) }
+    ensures { Chained (access_of records.now order.now) (length order.now) limit 0 result }
 {
     let mut i = order.len();
     let none = i as u16;
@@ -498,8 +498,8 @@ pub fn gather_in(records: &[u8], order: &[u16], limit: u16) -> [u16; CHAINS]
 
 // Gathers the events of each task, which is a byte, in a chain, from the last event to the first.
 pub fn gather_tasks(records: &[u8]) -> [u16; CHAINS]
-    requires { length records.now ≤ 4 * mostEvents }
-    ensures { Chained (byTask records.now) (length records.now / 4) 256 0 result }
+    requires { length records.now ≤ 4 * most_events }
+    ensures { Chained (by_task records.now) (length records.now / 4) 256 0 result }
 {
     let mut e = records.len() / 4;
     let none = e as u16;
@@ -519,10 +519,10 @@ fn put_task(
     order: &mut [u16; MOST_EVENTS],
     at: usize,
 ) -> usize
-    requires chained { Chained (byTask records.now) (length records.now / 4) 256 0 chain.now × (length records.now ≤ 4 * mostEvents) × (task < 256) }
-    requires task_bound { at + length (ownEvents (eventsOf records.now) task) ≤ mostEvents }
-    ensures order_after { order.new ≡ sets order.old at (ownEvents (eventsOf records.now) task) }
-    ensures value { result ≡ at + length (ownEvents (eventsOf records.now) task) }
+    requires chained { Chained (by_task records.now) (length records.now / 4) 256 0 chain.now × (length records.now ≤ 4 * most_events) × (task < 256) }
+    requires task_bound { at + length (own_events (events_of records.now) task) ≤ most_events }
+    ensures order_after { order.new ≡ sets order.old at (own_events (events_of records.now) task) }
+    ensures value { result ≡ at + length (own_events (events_of records.now) task) }
 {
     let n = records.len() / 4;
     let mut next = at;
@@ -537,8 +537,8 @@ fn put_task(
 
 // The events in task order: by task, and within a task in file order.
 pub fn task_order(records: &[u8], tasks: u16) -> [u16; MOST_EVENTS]
-    requires { (length records.now ≤ 4 * mostEvents) × (tasks ≤ mostTasks) × Tasked (eventsOf records.now) tasks }
-    ensures { take (length records.now / 4) result ≡ taskOrder (eventsOf records.now) tasks }
+    requires { (length records.now ≤ 4 * most_events) × (tasks ≤ most_tasks) × Tasked (events_of records.now) tasks }
+    ensures { take (length records.now / 4) result ≡ task_order (events_of records.now) tasks }
 {
     let chain = gather_tasks(records);
     let mut order = [0u16; MOST_EVENTS];

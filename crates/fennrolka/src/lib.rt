@@ -1,12 +1,12 @@
 // The functions for callers in C, on numbers and lent slices. Each takes any input, answers 0 or the number of a refusal, and puts
 // its numbers from the front of `told`, as many as there is room for; what is behind them stays. fennrolka.h declares them.
 ghost use Rattle.std.specs.Prelude.{◌≡◌, set};
-ghost use Rattle.model.specs.File.{eventsOf};
+ghost use Rattle.model.specs.File.{events_of};
 ghost use Rattle.model.specs.Reading.{reading_of};
-ghost use Rattle.model.specs.Analysing.{analysisOf, workAfterAnalysing, listAfterAnalysing};
+ghost use Rattle.model.specs.Analysing.{analysis_of, work_after_analysing, list_after_analysing};
 ghost use Rattle.model.specs.Report.{laid};
-ghost use Rattle.fennrolka.specs.Looking.{lookedAmong, lookedOf};
-ghost use Rattle.fennrolka.specs.Told.{codeOfReading, codeOfLooked, codeOfAnalysis, toldOfTrailer, toldOfReading, toldOfLooked, toldOfAnalysis};
+ghost use Rattle.fennrolka.specs.Looking.{looked_among, looked_of};
+ghost use Rattle.fennrolka.specs.Told.{code_of_reading, code_of_looked, code_of_analysis, told_of_trailer, told_of_reading, told_of_looked, told_of_analysis};
 
 use model::{Analysis, Event, Reading, Refusal, Trailer};
 
@@ -40,7 +40,7 @@ fn tell(told: &mut [u64], numbers: &[u64])
 // ---- reading
 
 fn reading_code(found: Reading) -> u32
-    ensures { result ≡ codeOfReading found }
+    ensures { result ≡ code_of_reading found }
 {
     match found {
         Reading::Accepted(_) => 0,
@@ -49,7 +49,7 @@ fn reading_code(found: Reading) -> u32
 }
 
 fn trailer_numbers(h: Trailer) -> [u64; 8]
-    ensures { result ≡ toldOfTrailer h }
+    ensures { result ≡ told_of_trailer h }
 {
     let counts = h.counts;
     let semaphores = events::semaphores(counts);
@@ -67,7 +67,7 @@ fn trailer_numbers(h: Trailer) -> [u64; 8]
 }
 
 fn reading_numbers(found: Reading) -> [u64; 8]
-    ensures { result ≡ toldOfReading found }
+    ensures { result ≡ told_of_reading found }
 {
     match found {
         Reading::Accepted(h) => trailer_numbers(h),
@@ -81,8 +81,8 @@ fn reading_numbers(found: Reading) -> [u64; 8]
 // Reads a file. Told: edition, start, events, tasks, semaphores, flags, cells, and the faulty record of a refusal.
 #[unsafe(no_mangle)]
 pub extern "C" fn fennrolka_read(file: &[u8], told: &mut [u64]) -> u32
-    ensures value { result ≡ codeOfReading (reading_of file.now) }
-    ensures told_after { told.new ≡ laid (toldOfReading (reading_of file.now)) told.old }
+    ensures value { result ≡ code_of_reading (reading_of file.now) }
+    ensures told_after { told.new ≡ laid (told_of_reading (reading_of file.now)) told.old }
 {
     let found = recording::read(file);
     let numbers = reading_numbers(found);
@@ -93,7 +93,7 @@ pub extern "C" fn fennrolka_read(file: &[u8], told: &mut [u64]) -> u32
 // ---- an event
 
 fn looked_code(found: Looked) -> u32
-    ensures { result ≡ codeOfLooked found }
+    ensures { result ≡ code_of_looked found }
 {
     match found {
         Looked::At(_) => 0,
@@ -102,7 +102,7 @@ fn looked_code(found: Looked) -> u32
 }
 
 fn looked_numbers(found: Looked) -> [u64; 4]
-    ensures { result ≡ toldOfLooked found }
+    ensures { result ≡ told_of_looked found }
 {
     match found {
         Looked::At(v) => [v.task as u64, v.kind as u64, v.object as u64, 0],
@@ -115,7 +115,7 @@ fn looked_numbers(found: Looked) -> [u64; 4]
 
 // Event e of the records, or 11 where there is none.
 fn look_in(records: &[u8], e: usize) -> Looked
-    ensures { result ≡ lookedAmong (eventsOf records.now) e }
+    ensures { result ≡ looked_among (events_of records.now) e }
 {
     if e < records.len() / 4 {
         return Looked::At(events::event_at(records, e));
@@ -125,7 +125,7 @@ fn look_in(records: &[u8], e: usize) -> Looked
 
 // Event e of a file.
 fn look(file: &[u8], e: usize) -> Looked
-    ensures { result ≡ lookedOf file.now e }
+    ensures { result ≡ looked_of file.now e }
 {
     match recording::read(file) {
         Reading::Accepted(h) => look_in(events::records_of(file, h), e),
@@ -136,8 +136,8 @@ fn look(file: &[u8], e: usize) -> Looked
 // Looks for event e of a file. Told: task, kind, object, and the faulty record of a refusal.
 #[unsafe(no_mangle)]
 pub extern "C" fn fennrolka_event(file: &[u8], e: usize, told: &mut [u64]) -> u32
-    ensures value { result ≡ codeOfLooked (lookedOf file.now e) }
-    ensures told_after { told.new ≡ laid (toldOfLooked (lookedOf file.now e)) told.old }
+    ensures value { result ≡ code_of_looked (looked_of file.now e) }
+    ensures told_after { told.new ≡ laid (told_of_looked (looked_of file.now e)) told.old }
 {
     let found = look(file, e);
     let numbers = looked_numbers(found);
@@ -148,7 +148,7 @@ pub extern "C" fn fennrolka_event(file: &[u8], e: usize, told: &mut [u64]) -> u3
 // ---- analysing
 
 fn analysis_code(found: Analysis) -> u32
-    ensures { result ≡ codeOfAnalysis found }
+    ensures { result ≡ code_of_analysis found }
 {
     match found {
         Analysis::Done { .. } => 0,
@@ -157,7 +157,7 @@ fn analysis_code(found: Analysis) -> u32
 }
 
 fn analysis_numbers(found: Analysis) -> [u64; 4]
-    ensures { result ≡ toldOfAnalysis found }
+    ensures { result ≡ told_of_analysis found }
 {
     match found {
         Analysis::Done {
@@ -183,10 +183,10 @@ pub extern "C" fn fennrolka_analyse(
     list: &mut [u16],
     told: &mut [u64],
 ) -> u32
-    ensures value { result ≡ codeOfAnalysis (analysisOf file.now budget work.old list.old) }
-    ensures work_after { work.new ≡ workAfterAnalysing file.now budget work.old }
-    ensures list_after { list.new ≡ listAfterAnalysing file.now budget work.old list.old }
-    ensures told_after { told.new ≡ laid (toldOfAnalysis (analysisOf file.now budget work.old list.old)) told.old }
+    ensures value { result ≡ code_of_analysis (analysis_of file.now budget work.old list.old) }
+    ensures work_after { work.new ≡ work_after_analysing file.now budget work.old }
+    ensures list_after { list.new ≡ list_after_analysing file.now budget work.old list.old }
+    ensures told_after { told.new ≡ laid (told_of_analysis (analysis_of file.now budget work.old list.old)) told.old }
 {
     let found = analysis::analyse(file, budget, work, list);
     let numbers = analysis_numbers(found);

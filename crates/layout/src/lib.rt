@@ -2,14 +2,14 @@
 // others in a given order. A crate of its own, since more than one interface crate writes files, and these functions require the room
 // that those have asked for.
 ghost use Rattle.std.specs.Prelude.{◌≡◌, ◌++◌, ◌+◌, ◌*◌, ◌/◌, ◌≤◌, length, take, drop};
-ghost use Rattle.model.specs.Writing.{trailerBytes, fileOf, fileLength, recordAt, recordsIn, fileIn};
+ghost use Rattle.model.specs.Writing.{trailer_bytes, file_of, file_length, record_at, records_in, file_in};
 ghost use Rattle.layout.specs.Picks.{Picks};
 
 use model::Counts;
 
 // The trailer of a file with start 0, n records and these counts.
 fn trailer_bytes(n: usize, counts: Counts) -> [u8; 16]
-    ensures { result ≡ trailerBytes n counts }
+    ensures { result ≡ trailer_bytes n counts }
 {
     let low = n % 65536;
     let high = n / 65536;
@@ -48,7 +48,7 @@ pub fn copy_at(bytes: &[u8], out: &mut [u8], at: usize)
 // Writes the level bytes and the trailer behind n record bytes.
 fn put_end(n: usize, counts: Counts, levels: &[u8], out: &mut [u8])
     requires { n + length levels.now + 16 ≤ length out.old }
-    ensures { out.new ≡ take n out.old ++ levels.now ++ trailerBytes (n / 4) counts
+    ensures { out.new ≡ take n out.old ++ levels.now ++ trailer_bytes (n / 4) counts
         ++ drop (n + length levels.now + 16) out.old }
 {
     let stop = n + levels.len();
@@ -59,9 +59,9 @@ fn put_end(n: usize, counts: Counts, levels: &[u8], out: &mut [u8])
 
 // Writes the file of these records into the front of the output.
 pub fn put_file(records: &[u8], counts: Counts, levels: &[u8], out: &mut [u8])
-    requires { fileLength records.now levels.now ≤ length out.old }
-    ensures { out.new ≡ fileOf records.now counts levels.now
-        ++ drop (fileLength records.now levels.now) out.old }
+    requires { file_length records.now levels.now ≤ length out.old }
+    ensures { out.new ≡ file_of records.now counts levels.now
+        ++ drop (file_length records.now levels.now) out.old }
 {
     copy_at(records, out, 0);
     put_end(records.len(), counts, levels, out);
@@ -70,7 +70,7 @@ pub fn put_file(records: &[u8], counts: Counts, levels: &[u8], out: &mut [u8])
 // Copies record e into the output as its record i.
 fn put_record(records: &[u8], e: usize, out: &mut [u8], i: usize)
     requires { (4 * e + 4 ≤ length records.now) × (4 * i + 4 ≤ length out.old) }
-    ensures { out.new ≡ take (4 * i) out.old ++ recordAt records.now e ++ drop (4 * i + 4) out.old }
+    ensures { out.new ≡ take (4 * i) out.old ++ record_at records.now e ++ drop (4 * i + 4) out.old }
 {
     let from = 4 * e;
     let to = 4 * i;
@@ -80,7 +80,7 @@ fn put_record(records: &[u8], e: usize, out: &mut [u8], i: usize)
 // Writes the records that the order names, one after another, into the front of the output.
 fn put_records(records: &[u8], order: &[u16], out: &mut [u8])
     requires { Picks records.now order.now × (4 * length order.now ≤ length out.old) }
-    ensures { out.new ≡ recordsIn records.now order.now ++ drop (4 * length order.now) out.old }
+    ensures { out.new ≡ records_in records.now order.now ++ drop (4 * length order.now) out.old }
 {
     let mut i = 0;
     while i < order.len() {
@@ -92,7 +92,7 @@ fn put_records(records: &[u8], order: &[u16], out: &mut [u8])
 // Writes the file of the records that the order names, in its order, into the front of the output.
 pub fn put_picked(records: &[u8], order: &[u16], counts: Counts, levels: &[u8], out: &mut [u8])
     requires { Picks records.now order.now × (4 * length order.now + length levels.now + 16 ≤ length out.old) }
-    ensures { out.new ≡ fileIn records.now order.now counts levels.now
+    ensures { out.new ≡ file_in records.now order.now counts levels.now
         ++ drop (4 * length order.now + length levels.now + 16) out.old }
 {
     put_records(records, order, out);

@@ -13,8 +13,8 @@ use native.Mathlib.Decide.{dec_le}
 use native.Mathlib.Omega.{arith}
 use lib.Dec.{leb, leb-suc-suc}
 use lib.ListN.{length, get_or, drop, length-append}
-use Rattle.model.specs.Numbers.{sum, each, flat_map, flatMapTails}
-use Rattle.model.proofs.Tests.{clash, last-or-lower, le-leb, lt-leb}
+use Rattle.model.specs.Numbers.{sum, each, flat_map, flat_map_tails}
+use Rattle.model.proofs.Tests.{clash, last_or_lower, le-leb, lt-leb}
 
 module _ {A : Type 0} (f : ℕ → List A) where
   -- one part more
@@ -28,36 +28,36 @@ module _ {A : Type 0} (f : ℕ → List A) where
   each_none (suc n) h = rw (h n (omega arith), each_none n (λ i l. h i (omega arith)))
 
   -- empty parts are passed over
-  pub each-skip : (m n : ℕ) → m ≤ n → ((i : ℕ) → m ≤ i → i < n → f i ≡ []) → each f n ≡ each f m
+  pub each_skip : (m n : ℕ) → m ≤ n → ((i : ℕ) → m ≤ i → i < n → f i ≡ []) → each f n ≡ each f m
   unfolding each
-  each-skip m zero h e = let z : m ≡ 0 = omega arith in rw z
-  each-skip m (suc n) h e = elim (dec_le m n) [
-    | yes p ↦ rw (e n p (omega arith), append-nil (each f n)) (each-skip m n p (λ i a b. e i a (omega arith)))
+  each_skip m zero h e = let z : m ≡ 0 = omega arith in rw z
+  each_skip m (suc n) h e = elim (dec_le m n) [
+    | yes p ↦ rw (e n p (omega arith), append-nil (each f n)) (each_skip m n p (λ i a b. e i a (omega arith)))
     | no p ↦ (let z : m ≡ suc n = omega arith in rw z)
   ]
 
-  pub each-count : (i : ℕ) → length (each f (i + 1)) ≡ length (each f i) + length (f i)
-  each-count i = ap length (each_more i) ∙ length-append (each f i) (f i)
+  pub each_count : (i : ℕ) → length (each f (i + 1)) ≡ length (each f i) + length (f i)
+  each_count i = ap length (each_more i) ∙ length-append (each f i) (f i)
 
-  pub each-longer : (m n : ℕ) → m ≤ n → length (each f m) ≤ length (each f n)
+  pub each_longer : (m n : ℕ) → m ≤ n → length (each f m) ≤ length (each f n)
   unfolding each
-  each-longer m zero h =
+  each_longer m zero h =
       let e : m ≡ 0 = omega arith in
       rw e (omega arith)
-  each-longer m (suc n) h = elim (dec_le m n) [
-    | yes p ↦ omega (arith, each-longer m n p, length-append (each f n) (f n))
+  each_longer m (suc n) h = elim (dec_le m n) [
+    | yes p ↦ omega (arith, each_longer m n p, length-append (each f n) (f n))
     | no p ↦ (let e : m ≡ suc n = omega arith in rw e (omega arith))
   ]
 
-  pub each-most : (m : ℕ) → ((i : ℕ) → length (f i) ≤ m) → (n : ℕ) → length (each f n) ≤ n * m
+  pub each_most : (m : ℕ) → ((i : ℕ) → length (f i) ≤ m) → (n : ℕ) → length (each f n) ≤ n * m
   unfolding each
-  each-most m h zero = omega arith
-  each-most m h (suc n) = omega (arith, each-most m h n, h n, length-append (each f n) (f n), suc-mul n m)
+  each_most m h zero = omega arith
+  each_most m h (suc n) = omega (arith, each_most m h n, h n, length-append (each f n) (f n), suc-mul n m)
 
-pub each-length : {A : Type 0} (f : ℕ → List A) (n : ℕ) → length (each f n) ≡ sum (λ i. length (f i)) n
+pub each_length : {A : Type 0} (f : ℕ → List A) (n : ℕ) → length (each f n) ≡ sum (λ i. length (f i)) n
 unfolding each sum
-each-length f zero = refl
-each-length f (suc n) = length-append (each f n) (f n) ∙ ap (λ (k : ℕ). k + length (f n)) (each-length f n)
+each_length f zero = refl
+each_length f (suc n) = length-append (each f n) (f n) ∙ ap (λ (k : ℕ). k + length (f n)) (each_length f n)
 
 -- ---- members
 
@@ -76,13 +76,13 @@ module _ {A : Type 0} (x : A) (f : ℕ → List A) where
   unfolding each
   each_in zero i l m = absurd (not-suc-le-zero l)
   each_in (suc n) i l m =
-      last-or-lower l (λ d. Memᴰ.append_right (each f n) (subst (λ (j : ℕ). Memᴰ x (f j)) d m)) (λ k. Memᴰ.append_left (f n) (each_in n i k m))
+      last_or_lower l (λ d. Memᴰ.append_right (each f n) (subst (λ (j : ℕ). Memᴰ x (f j)) d m)) (λ k. Memᴰ.append_left (f n) (each_in n i k m))
 
 module _ {A B : Type 0} (y : B) (f : A → List B) where
-  pub flat-of : (l : List A) → Memᴰ y (flat_map f l) → (x : A) × Memᴰ x l × Memᴰ y (f x)
+  pub flat_of : (l : List A) → Memᴰ y (flat_map f l) → (x : A) × Memᴰ x l × Memᴰ y (f x)
   unfolding flat_map
-  flat-of [] h = absurd (Memᴰ.not-nil h)
-  flat-of (x ∷ l) h = go (Memᴰ.append_cases (f x) h) (λ k. flat-of l k)
+  flat_of [] h = absurd (Memᴰ.not-nil h)
+  flat_of (x ∷ l) h = go (Memᴰ.append_cases (f x) h) (λ k. flat_of l k)
     where
       go : Memᴰ y (f x) ⊎ Memᴰ y (flat_map f l) → (Memᴰ y (flat_map f l) → (z : A) × Memᴰ z l × Memᴰ y (f z))
           → (z : A) × Memᴰ z (x ∷ l) × Memᴰ y (f z)
@@ -95,51 +95,51 @@ module _ {A B : Type 0} (y : B) (f : A → List B) where
   flat_in (z ∷ l) x (Memᴰ.tail m) k = Memᴰ.append_right (f z) (flat_in l x m k)
 
 -- a list that is there only where a test passes
-pub where-of : {A : Type 0} {x : A} (l : List A) (t : Bool) → Memᴰ x (cond t l []) → (t ≡ true) × Memᴰ x l
-where-of l true h = (refl, h)
-where-of l false h = absurd (Memᴰ.not-nil h)
+pub where_of : {A : Type 0} {x : A} (l : List A) (t : Bool) → Memᴰ x (cond t l []) → (t ≡ true) × Memᴰ x l
+where_of l true h = (refl, h)
+where_of l false h = absurd (Memᴰ.not-nil h)
 
-pub where-in : {A : Type 0} {x : A} (l : List A) (t : Bool) → t ≡ true → Memᴰ x l → Memᴰ x (cond t l [])
-where-in l true q h = h
-where-in l false q h = clash q refl
+pub where_in : {A : Type 0} {x : A} (l : List A) (t : Bool) → t ≡ true → Memᴰ x l → Memᴰ x (cond t l [])
+where_in l true q h = h
+where_in l false q h = clash q refl
 
 -- ---- a list's elements as parts, by place
 
 module _ {A : Type 0} where
-  each-ext : (f g : ℕ → List A) → ((i : ℕ) → f i ≡ g i) → (n : ℕ) → each f n ≡ each g n
+  each_ext : (f g : ℕ → List A) → ((i : ℕ) → f i ≡ g i) → (n : ℕ) → each f n ≡ each g n
   unfolding each
-  each-ext f g h zero = refl
-  each-ext f g h (suc n) = ap₂ (λ (x y : List A). x ++ y) (each-ext f g h n) (h n)
+  each_ext f g h zero = refl
+  each_ext f g h (suc n) = ap₂ (λ (x y : List A). x ++ y) (each_ext f g h n) (h n)
 
-  each-front : (f : ℕ → List A) (n : ℕ) → each f (suc n) ≡ f 0 ++ each (λ i. f (suc i)) n
+  each_front : (f : ℕ → List A) (n : ℕ) → each f (suc n) ≡ f 0 ++ each (λ i. f (suc i)) n
   unfolding each
-  each-front f zero = sym (append-nil (f 0))
-  each-front f (suc n) = ap (λ (x : List A). x ++ f (suc n)) (each-front f n) ∙ append_assoc (f 0) (each (λ i. f (suc i)) n) (f (suc n))
+  each_front f zero = sym (append-nil (f 0))
+  each_front f (suc n) = ap (λ (x : List A). x ++ f (suc n)) (each_front f n) ∙ append_assoc (f 0) (each (λ i. f (suc i)) n) (f (suc n))
 
   -- the elements from place m on
-  pub flat-each : (f : ℕ → List A) (m : ℕ) (l : List ℕ) → flat_map f (drop m l) ≡ each (λ i. cond (leb m i) (f (get_or l i 0)) []) (length l)
+  pub flat_each : (f : ℕ → List A) (m : ℕ) (l : List ℕ) → flat_map f (drop m l) ≡ each (λ i. cond (leb m i) (f (get_or l i 0)) []) (length l)
   unfolding flat_map each
-  flat-each f zero [] = refl
-  flat-each f (suc m) [] = refl
-  flat-each f zero (x ∷ l) =
-      ap (λ (r : List A). f x ++ r) (flat-each f zero l)
-      ∙ ap₂ (λ (r s : List A). r ++ s) (sym (at_once 0 (f x))) (each-ext _ _ (λ i. at_once i _ ∙ sym (at_once (suc i) _)) (length l))
-      ∙ sym (each-front (λ i. cond (leb zero i) (f (get_or (x ∷ l) i 0)) []) (length l))
+  flat_each f zero [] = refl
+  flat_each f (suc m) [] = refl
+  flat_each f zero (x ∷ l) =
+      ap (λ (r : List A). f x ++ r) (flat_each f zero l)
+      ∙ ap₂ (λ (r s : List A). r ++ s) (sym (at_once 0 (f x))) (each_ext _ _ (λ i. at_once i _ ∙ sym (at_once (suc i) _)) (length l))
+      ∙ sym (each_front (λ i. cond (leb zero i) (f (get_or (x ∷ l) i 0)) []) (length l))
     where
       at_once : (i : ℕ) (r : List A) → cond (leb zero i) r [] ≡ r
       at_once i r = rw (le-leb zero i zero-le)
-  flat-each f (suc m) (x ∷ l) =
-      flat-each f m l
-      ∙ each-ext _ _ (λ i. ap (λ (b : Bool). cond b (f (get_or l i 0)) []) (sym (leb-suc-suc m i))) (length l)
+  flat_each f (suc m) (x ∷ l) =
+      flat_each f m l
+      ∙ each_ext _ _ (λ i. ap (λ (b : Bool). cond b (f (get_or l i 0)) []) (sym (leb-suc-suc m i))) (length l)
       ∙ ap (λ (r : List A). r ++ each (λ i. cond (leb (suc m) (suc i)) (f (get_or l i 0)) []) (length l)) (sym never)
-      ∙ sym (each-front (λ i. cond (leb (suc m) i) (f (get_or (x ∷ l) i 0)) []) (length l))
+      ∙ sym (each_front (λ i. cond (leb (suc m) i) (f (get_or (x ∷ l) i 0)) []) (length l))
     where
       never : cond (leb (suc m) 0) (f x) [] ≡ []
       never = rw (lt-leb (suc m) 0 (omega arith))
 
   -- each element and those behind it
-  pub tails-each : (g : ℕ → List ℕ → List A) (l : List ℕ) → flatMapTails g l ≡ each (λ i. g (get_or l i 0) (drop (suc i) l)) (length l)
-  unfolding flatMapTails each
-  tails-each g [] = refl
-  tails-each g (x ∷ l) =
-      ap (λ (r : List A). g x l ++ r) (tails-each g l) ∙ sym (each-front (λ i. g (get_or (x ∷ l) i 0) (drop (suc i) (x ∷ l))) (length l))
+  pub tails_each : (g : ℕ → List ℕ → List A) (l : List ℕ) → flat_map_tails g l ≡ each (λ i. g (get_or l i 0) (drop (suc i) l)) (length l)
+  unfolding flat_map_tails each
+  tails_each g [] = refl
+  tails_each g (x ∷ l) =
+      ap (λ (r : List A). g x l ++ r) (tails_each g l) ∙ sym (each_front (λ i. g (get_or (x ∷ l) i 0) (drop (suc i) (x ∷ l))) (length l))

@@ -11,111 +11,111 @@ use Rattle.model.specs.declared.Counts.{Counts}
 use Rattle.model.specs.declared.Trailer.{Trailer}
 use Rattle.model.specs.declared.Check.{Check}
 use Rattle.model.specs.declared.Reading.{Reading}
-use Rattle.model.specs.Recording.{size, noEvent, semaphoresOf, flags_of, Accepted}
-use Rattle.model.specs.File.{eventAt, eventsOf, trailerAt, trailerOf, startCount, levelCount, levelBytes, recordBytes, recordingOf}
-use Rattle.model.specs.Reading.{lastEdition, knownEdition, extentMet, in_range, postsUp, fileCheck, readingBy, reading_of, mostTasks, mostSemaphores, mostFlags, mostCells, mostEvents}
+use Rattle.model.specs.Recording.{size, no_event, semaphores_of, flags_of, Accepted}
+use Rattle.model.specs.File.{event_at, events_of, trailer_at, trailer_of, start_count, level_count, level_bytes, record_bytes, recording_of}
+use Rattle.model.specs.Reading.{last_edition, known_edition, extent_met, in_range, posts_up, file_check, reading_by, reading_of, most_tasks, most_semaphores, most_flags, most_cells, most_events}
 use Rattle.model.specs.Acceptable.{InRange}
 use Rattle.model.proofs.Tests.{first, second, all_three, leb-true, eqb-true}
-use Rattle.model.proofs.Checks.{unless-passed}
-use Rattle.model.proofs.Lists.{listOf-length}
+use Rattle.model.proofs.Checks.{unless_passed}
+use Rattle.model.proofs.Lists.{list_of-length}
 
-pub in-range : (c : Counts) (n : ℕ) → in_range c n ≡ true → InRange c n
+pub in_range_lem : (c : Counts) (n : ℕ) → in_range c n ≡ true → InRange c n
 unfolding in_range
-in-range c n h =
+in_range_lem c n h =
     let some = leb 1 c.tasks in
-    let few = leb c.tasks mostTasks in
-    let semaphores = leb (semaphoresOf c) mostSemaphores in
-    let flags = leb (flags_of c) mostFlags in
-    let (named, cells, records) = all_three (some && few && semaphores && flags) (leb c.cells mostCells) (leb n mostEvents) h in
+    let few = leb c.tasks most_tasks in
+    let semaphores = leb (semaphores_of c) most_semaphores in
+    let flags = leb (flags_of c) most_flags in
+    let (named, cells, records) = all_three (some && few && semaphores && flags) (leb c.cells most_cells) (leb n most_events) h in
     let (tasks, s, g) = all_three (some && few) semaphores flags named in
     record {
-      some-task = leb-true 1 c.tasks (first some few tasks);
-      few-tasks = leb-true c.tasks mostTasks (second some few tasks);
-      few-semaphores = leb-true (semaphoresOf c) mostSemaphores s;
-      few-flags = leb-true (flags_of c) mostFlags g;
-      few-cells = leb-true c.cells mostCells cells;
-      few-records = leb-true n mostEvents records;
+      some_task = leb-true 1 c.tasks (first some few tasks);
+      few_tasks = leb-true c.tasks most_tasks (second some few tasks);
+      few_semaphores = leb-true (semaphores_of c) most_semaphores s;
+      few_flags = leb-true (flags_of c) most_flags g;
+      few_cells = leb-true c.cells most_cells cells;
+      few_records = leb-true n most_events records;
     }
 
 -- all that the checks of a file say
 pub record Sound (f : List ℕ) : Type 0 where
   pub long : 16 ≤ length f
-  pub some-edition : 1 ≤ (trailerOf f).counts.edition
-  pub no-later : (trailerOf f).counts.edition ≤ lastEdition
-  pub extent : (trailerOf f).start + 4 * (trailerOf f).records + levelCount (trailerOf f).counts + 16 ≡ length f
-  pub range : InRange (trailerOf f).counts (trailerOf f).records
-  pub posts : postsUp (recordingOf f).levels.posts ≡ true
-  pub accepted : Accepted (recordingOf f)
+  pub some_edition : 1 ≤ (trailer_of f).counts.edition
+  pub no_later : (trailer_of f).counts.edition ≤ last_edition
+  pub extent : (trailer_of f).start + 4 * (trailer_of f).records + level_count (trailer_of f).counts + 16 ≡ length f
+  pub range : InRange (trailer_of f).counts (trailer_of f).records
+  pub posts : posts_up (recording_of f).levels.posts ≡ true
+  pub accepted : Accepted (recording_of f)
 
-pub sound : (f : List ℕ) → fileCheck f ≡ Check.Passed → Sound f
-unfolding fileCheck knownEdition extentMet Accepted
+pub sound : (f : List ℕ) → file_check f ≡ Check.Passed → Sound f
+unfolding file_check known_edition extent_met Accepted
 sound f h =
-    let (long, a) = unless-passed (leb 16 (length f)) _ _ h in
-    let n = (trailerOf f).counts.edition in
-    let (edition, b) = unless-passed (leb 1 n && leb n lastEdition) _ _ a in
-    let (extent, c) = unless-passed (eqb ((trailerOf f).start + 4 * (trailerOf f).records + levelCount (trailerOf f).counts) (trailerAt f)) _ _ b in
-    let (range, d) = unless-passed (in_range (trailerOf f).counts (trailerOf f).records) _ _ c in
-    let (posts, e) = unless-passed (postsUp (recordingOf f).levels.posts) _ _ d in
+    let (long, a) = unless_passed (leb 16 (length f)) _ _ h in
+    let n = (trailer_of f).counts.edition in
+    let (edition, b) = unless_passed (leb 1 n && leb n last_edition) _ _ a in
+    let (extent, c) = unless_passed (eqb ((trailer_of f).start + 4 * (trailer_of f).records + level_count (trailer_of f).counts) (trailer_at f)) _ _ b in
+    let (range, d) = unless_passed (in_range (trailer_of f).counts (trailer_of f).records) _ _ c in
+    let (posts, e) = unless_passed (posts_up (recording_of f).levels.posts) _ _ d in
     let l = leb-true 16 (length f) long in
-    let x = eqb-true ((trailerOf f).start + 4 * (trailerOf f).records + levelCount (trailerOf f).counts) (trailerAt f) extent in
+    let x = eqb-true ((trailer_of f).start + 4 * (trailer_of f).records + level_count (trailer_of f).counts) (trailer_at f) extent in
     record {
       long = l;
-      some-edition = leb-true 1 n (first (leb 1 n) (leb n lastEdition) edition);
-      no-later = leb-true n lastEdition (second (leb 1 n) (leb n lastEdition) edition);
+      some_edition = leb-true 1 n (first (leb 1 n) (leb n last_edition) edition);
+      no_later = leb-true n last_edition (second (leb 1 n) (leb n last_edition) edition);
       extent = omega arith;
-      range = in-range (trailerOf f).counts (trailerOf f).records range;
+      range = in_range_lem (trailer_of f).counts (trailer_of f).records range;
       posts = posts;
       accepted = e;
     }
 
 -- reading accepts a file exactly where its check passes
-pub reading-passed : (f : List ℕ) (h : Trailer) → reading_of f ≡ Reading.Accepted h → fileCheck f ≡ Check.Passed
+pub reading_passed : (f : List ℕ) (h : Trailer) → reading_of f ≡ Reading.Accepted h → file_check f ≡ Check.Passed
 unfolding reading_of
-reading-passed f h q = go (fileCheck f) q
+reading_passed f h q = go (file_check f) q
   where
-    go : (c : Check) → readingBy (trailerOf f) c ≡ Reading.Accepted h → c ≡ Check.Passed
+    go : (c : Check) → reading_by (trailer_of f) c ≡ Reading.Accepted h → c ≡ Check.Passed
     go Check.Passed q = refl
     go (Check.Failed r) q = let z : ◌≡◌ {A = ℕ} 0 1 = cc in absurd (omega arith)
 
 -- and answers the file's own trailer
-pub trailer-read : (f : List ℕ) (h : Trailer) → reading_of f ≡ Reading.Accepted h → trailerOf f ≡ h
+pub trailer_read : (f : List ℕ) (h : Trailer) → reading_of f ≡ Reading.Accepted h → trailer_of f ≡ h
 unfolding reading_of
-trailer-read f h q = let r = sym (ap (readingBy (trailerOf f)) (reading-passed f h q)) ∙ q in cc
+trailer_read f h q = let r = sym (ap (reading_by (trailer_of f)) (reading_passed f h q)) ∙ q in cc
 
-pub accepted-recording : (f : List ℕ) (h : Trailer) → reading_of f ≡ Reading.Accepted h → Accepted (recordingOf f)
-accepted-recording f h q = (sound f (reading-passed f h q)).accepted
+pub accepted_recording : (f : List ℕ) (h : Trailer) → reading_of f ≡ Reading.Accepted h → Accepted (recording_of f)
+accepted_recording f h q = (sound f (reading_passed f h q)).accepted
 
 -- ---- the events of record bytes
 
-pub events-length : (s : List ℕ) → length (eventsOf s) ≡ length s / 4
-unfolding eventsOf
-events-length s = listOf-length (eventAt s) noEvent (length s / 4)
+pub events_length : (s : List ℕ) → length (events_of s) ≡ length s / 4
+unfolding events_of
+events_length s = list_of-length (event_at s) no_event (length s / 4)
 
 -- where start and N meet the length, the records' part has N whole records, and so many events
-module _ (f : List ℕ) (met : (trailerOf f).start + 4 * (trailerOf f).records + levelCount (trailerOf f).counts + 16 ≡ length f) where
-  bytes-met : length (recordBytes f (trailerOf f)) ≡ 4 * (trailerOf f).records
-  unfolding recordBytes
-  bytes-met = simp (length-take, length-drop) (omega arith)
+module _ (f : List ℕ) (met : (trailer_of f).start + 4 * (trailer_of f).records + level_count (trailer_of f).counts + 16 ≡ length f) where
+  bytes_met : length (record_bytes f (trailer_of f)) ≡ 4 * (trailer_of f).records
+  unfolding record_bytes
+  bytes_met = simp (length-take, length-drop) (omega arith)
 
-  pub size-met : size (recordingOf f) ≡ (trailerOf f).records
-  unfolding recordingOf
-  size-met = events-length (recordBytes f (trailerOf f)) ∙ (let l = bytes-met in omega arith)
+  pub size_met : size (recording_of f) ≡ (trailer_of f).records
+  unfolding recording_of
+  size_met = events_length (record_bytes f (trailer_of f)) ∙ (let l = bytes_met in omega arith)
 
   -- and behind them as many start bytes and post bytes as its edition takes
-  levels-met : length (levelBytes f (trailerOf f)) ≡ levelCount (trailerOf f).counts
-  unfolding levelBytes
-  levels-met = simp (length-take, length-drop) (omega arith)
+  levels_met : length (level_bytes f (trailer_of f)) ≡ level_count (trailer_of f).counts
+  unfolding level_bytes
+  levels_met = simp (length-take, length-drop) (omega arith)
 
-  pub starts-met : length (recordingOf f).levels.starts ≡ startCount (trailerOf f).counts
-  unfolding recordingOf levelCount
-  starts-met = length-take (startCount (trailerOf f).counts) (levelBytes f (trailerOf f)) ∙ (let l = levels-met in omega arith)
+  pub starts_met : length (recording_of f).levels.starts ≡ start_count (trailer_of f).counts
+  unfolding recording_of level_count
+  starts_met = length-take (start_count (trailer_of f).counts) (level_bytes f (trailer_of f)) ∙ (let l = levels_met in omega arith)
 
-  pub posts-met : length (recordingOf f).levels.posts ≡ flags_of (trailerOf f).counts
-  unfolding recordingOf levelCount
-  posts-met = length-drop (startCount (trailerOf f).counts) (levelBytes f (trailerOf f)) ∙ (let l = levels-met in omega arith)
+  pub posts_met : length (recording_of f).levels.posts ≡ flags_of (trailer_of f).counts
+  unfolding recording_of level_count
+  posts_met = length-drop (start_count (trailer_of f).counts) (level_bytes f (trailer_of f)) ∙ (let l = levels_met in omega arith)
 
-pub bytes-length : (f : List ℕ) → Sound f → length (recordBytes f (trailerOf f)) ≡ 4 * (trailerOf f).records
-bytes-length f s = bytes-met f s.extent
+pub bytes_length : (f : List ℕ) → Sound f → length (record_bytes f (trailer_of f)) ≡ 4 * (trailer_of f).records
+bytes_length f s = bytes_met f s.extent
 
-pub size-records : (f : List ℕ) → Sound f → size (recordingOf f) ≡ (trailerOf f).records
-size-records f s = size-met f s.extent
+pub size_records : (f : List ℕ) → Sound f → size (recording_of f) ≡ (trailer_of f).records
+size_records f s = size_met f s.extent

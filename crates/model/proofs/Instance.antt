@@ -6,7 +6,7 @@ use mathlib.Core.Logic.{◌⊎◌, inl, inr}
 use mathlib.Core.List.Memᴰ
 use mathlib.Core.List.{[], ◌∷◌, Memᴰ}
 use native.Mathlib.Omega.{arith}
-use Rattle.model.specs.File.{recordingOf}
+use Rattle.model.specs.File.{recording_of}
 use Rattle.model.specs.Pairs.{Entry, listed, OnList}
 use Rattle.model.specs.Rows.Starred.{G}
 use Rattle.model.specs.Rows.Instance.{Instance}
@@ -15,7 +15,7 @@ use Rattle.model.proofs.Computing.{rows}
 sure : Entry
 sure = record { first = 3; second = 2; mark = 1 }
 
-one_entry : listed (recordingOf G) 37 ≡ sure ∷ []
+one_entry : listed (recording_of G) 37 ≡ sure ∷ []
 unfolding rows sure
 one_entry = refl
 
@@ -24,13 +24,13 @@ unfolding rows sure
 instance =
     record {
       accepted = refl;
-      listed-sure = rw one_entry (Memᴰ.head refl);
+      listed_sure = rw one_entry (Memᴰ.head refl);
       conflicting = refl;
       off_list = λ m k. other m (either m k);
     }
   where
     -- the one entry is neither of event 0
-    either : (m : ℕ) → OnList (recordingOf G) 0 2 37 m → (record { first = 0; second = 2; mark = m } ≡ sure) ⊎ (record { first = 2; second = 0; mark = m } ≡ sure)
+    either : (m : ℕ) → OnList (recording_of G) 0 2 37 m → (record { first = 0; second = 2; mark = m } ≡ sure) ⊎ (record { first = 2; second = 0; mark = m } ≡ sure)
     either m (inl k) = inl (Memᴰ.eq_of_singleton (subst (Memᴰ _) one_entry k))
     either m (inr k) = inr (Memᴰ.eq_of_singleton (subst (Memᴰ _) one_entry k))
 

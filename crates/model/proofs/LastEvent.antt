@@ -10,14 +10,14 @@ use lib.Seq.{length-take-le, get_or-take}
 use Rattle.model.specs.declared.Event.{Event}
 use Rattle.model.specs.declared.Found.{Found}
 use Rattle.model.specs.Numbers.{last_of}
-use Rattle.model.specs.Recording.{Recording, event, eventIn, noEvent, task_of, ofTask, isJoin, Accepted}
-use Rattle.model.specs.Passes.{lastEvent}
-use Rattle.model.specs.Orders.{fileOrder}
+use Rattle.model.specs.Recording.{Recording, event, event_in, no_event, task_of, of_task, is_join, Accepted}
+use Rattle.model.specs.Passes.{last_event}
+use Rattle.model.specs.Orders.{file_order}
 use Rattle.model.specs.LastEvent.{LookedBack, NoneAfterJoin, LastBeforeJoin}
-use Rattle.model.proofs.Tests.{clash, fails, last-or-lower, eqb-true}
+use Rattle.model.proofs.Tests.{clash, fails, last_or_lower, eqb-true}
 use Rattle.model.proofs.Rules.{join_last}
 use Rattle.model.proofs.Sources.{last_some, last_none}
-use Rattle.model.proofs.FileOrder.{file-admissible, file-lower}
+use Rattle.model.proofs.FileOrder.{file_admissible, file_lower}
 
 -- ---- what is found
 
@@ -25,48 +25,48 @@ pub looked : LookedBack
 looked l t =
     record {
       hit = λ a q. let k = last_some p (length l) a q in (k.inside, k.passes, k.after);
-      none = (last_none p (length l), λ h. nothing h (lastEvent l t) refl);
+      none = (last_none p (length l), λ h. nothing h (last_event l t) refl);
     }
   where
     p : ℕ → Bool
-    p a = ofTask t (eventIn l a)
+    p a = of_task t (event_in l a)
 
-    nothing : ((a : ℕ) → a < length l → p a ≡ false) → (m : Found) → lastEvent l t ≡ m → lastEvent l t ≡ Found.Nothing
+    nothing : ((a : ℕ) → a < length l → p a ≡ false) → (m : Found) → last_event l t ≡ m → last_event l t ≡ Found.Nothing
     nothing h Found.Nothing q = q
     nothing h (Found.At a) q = let k = last_some p (length l) a q in clash k.passes (h a k.inside)
 
 -- ---- the last of all is the last before the join
 
 -- tests that agree have one last number
-last-alike : (p q : ℕ → Bool) (n : ℕ) → ((a : ℕ) → a < n → p a ≡ q a) → last_of p n ≡ last_of q n
+last_alike : (p q : ℕ → Bool) (n : ℕ) → ((a : ℕ) → a < n → p a ≡ q a) → last_of p n ≡ last_of q n
 unfolding last_of
-last-alike p q zero h = refl
-last-alike p q (suc n) h = ap₂ (λ (b : Bool) (m : Found). elim b as (λ (x : Bool). Found) [ true ↦ Found.At n | false ↦ m ]) (h n (omega arith)) (last-alike p q n (λ a k. h a (omega arith)))
+last_alike p q zero h = refl
+last_alike p q (suc n) h = ap₂ (λ (b : Bool) (m : Found). elim b as (λ (x : Bool). Found) [ true ↦ Found.At n | false ↦ m ]) (h n (omega arith)) (last_alike p q n (λ a k. h a (omega arith)))
 
 -- numbers that fail at the end change nothing
-last-cut : (p : ℕ → Bool) (e n : ℕ) → e ≤ n → ((a : ℕ) → e ≤ a → a < n → p a ≡ false) → last_of p n ≡ last_of p e
+last_cut : (p : ℕ → Bool) (e n : ℕ) → e ≤ n → ((a : ℕ) → e ≤ a → a < n → p a ≡ false) → last_of p n ≡ last_of p e
 unfolding last_of
-last-cut p e zero h none = let q : 0 ≡ e = omega arith in ap (last_of p) q
-last-cut p e (suc n) h none =
+last_cut p e zero h none = let q : 0 ≡ e = omega arith in ap (last_of p) q
+last_cut p e (suc n) h none =
     let k : e < suc (suc n) = omega arith in
-    last-or-lower k (λ q. ap (last_of p) (sym q))
-    (λ k. rw (none n (omega arith) (omega arith), last_of) (last-cut p e n (omega arith) (λ a m l. none a m (omega arith))))
+    last_or_lower k (λ q. ap (last_of p) (sym q))
+    (λ k. rw (none n (omega arith) (omega arith), last_of) (last_cut p e n (omega arith) (λ a m l. none a m (omega arith))))
 
 -- so the records before the join have the last event, where none follows the join
-pub cut-at-join : (l : List Event) → NoneAfterJoin l → (t e : ℕ) → e < length l → isJoin t (eventIn l e) ≡ true → lastEvent l t ≡ lastEvent (take e l) t
-cut-at-join l none t e h j =
-    last-cut (λ a. ofTask t (eventIn l a)) e (length l) (omega arith) (λ a k m. none t e a j k m)
-    ∙ last-alike (λ a. ofTask t (eventIn l a)) (λ a. ofTask t (eventIn (take e l) a)) e (λ a k. ap (ofTask t) (sym (get_or-take e l a noEvent k)))
-    ∙ ap (last_of (λ a. ofTask t (eventIn (take e l) a))) (sym (length-take-le e l (omega arith)))
+pub cut_at_join : (l : List Event) → NoneAfterJoin l → (t e : ℕ) → e < length l → is_join t (event_in l e) ≡ true → last_event l t ≡ last_event (take e l) t
+cut_at_join l none t e h j =
+    last_cut (λ a. of_task t (event_in l a)) e (length l) (omega arith) (λ a k m. none t e a j k m)
+    ∙ last_alike (λ a. of_task t (event_in l a)) (λ a. of_task t (event_in (take e l) a)) e (λ a k. ap (of_task t) (sym (get_or-take e l a no_event k)))
+    ∙ ap (last_of (λ a. of_task t (event_in (take e l) a))) (sym (length-take-le e l (omega arith)))
 
 -- ---- in an accepted recording
 
-pub none-after-join : (E : Recording) → Accepted E → NoneAfterJoin E.events
-none-after-join E acc t e a j h k =
-    fails (ofTask t (event E a)) λ own.
-    let q : isJoin (task_of E a) (event E e) ≡ true = ap (λ (t : ℕ). isJoin t (event E e)) (eqb-true (task_of E a) t own) ∙ j in
-    let r = file-lower E a e k (omega arith) (join_last E (fileOrder E) (file-admissible E acc) e a (omega arith) k q) in
+pub none_after_join : (E : Recording) → Accepted E → NoneAfterJoin E.events
+none_after_join E acc t e a j h k =
+    fails (of_task t (event E a)) λ own.
+    let q : is_join (task_of E a) (event E e) ≡ true = ap (λ (t : ℕ). is_join t (event E e)) (eqb-true (task_of E a) t own) ∙ j in
+    let r = file_lower E a e k (omega arith) (join_last E (file_order E) (file_admissible E acc) e a (omega arith) k q) in
     absurd (omega arith)
 
-pub last-before-join : LastBeforeJoin
-last-before-join E acc t e h j = cut-at-join E.events (none-after-join E acc) t e h j
+pub last_before_join : LastBeforeJoin
+last_before_join E acc t e h j = cut_at_join E.events (none_after_join E acc) t e h j

@@ -13,10 +13,10 @@ use Rattle.model.specs.Vectors.{Vectors, number}
 use Rattle.model.proofs.Tests.{cases, ltb-true, ltb-false}
 
 module _ {A : Type 0} (f : ℕ → A) (d : A) where
-  from-length : (i n : ℕ) → length (list_from f i n) ≡ n
+  from_length : (i n : ℕ) → length (list_from f i n) ≡ n
   unfolding list_from
-  from-length i zero = refl
-  from-length i (suc n) = ap suc (from-length (suc i) n)
+  from_length i zero = refl
+  from_length i (suc n) = ap suc (from_length (suc i) n)
 
   from_at : (i n j : ℕ) → j < n → get_or (list_from f i n) j d ≡ f (i + j)
   unfolding list_from
@@ -24,23 +24,23 @@ module _ {A : Type 0} (f : ℕ → A) (d : A) where
   from_at i (suc n) zero h = ap f (sym (add-zero i))
   from_at i (suc n) (suc j) h = from_at (suc i) n j (le_of_suc-le-suc h) ∙ ap f (suc-add i j ∙ sym (add-suc i j))
 
-  pub listOf-length : (n : ℕ) → length (list_of f n) ≡ n
-  listOf-length n = from-length 0 n
+  pub list_of-length : (n : ℕ) → length (list_of f n) ≡ n
+  list_of-length n = from_length 0 n
 
-  pub listOf-at : (n j : ℕ) → j < n → get_or (list_of f n) j d ≡ f j
-  listOf-at n j h = from_at 0 n j h ∙ ap f (zero-add j)
+  pub list_of_at : (n j : ℕ) → j < n → get_or (list_of f n) j d ≡ f j
+  list_of_at n j h = from_at 0 n j h ∙ ap f (zero-add j)
 
-  pub listOf-past : (n j : ℕ) → n ≤ j → get_or (list_of f n) j d ≡ d
-  listOf-past n j h = get_or-eq_default (list_of f n) d (let e = listOf-length n in omega arith)
+  pub list_of_past : (n j : ℕ) → n ≤ j → get_or (list_of f n) j d ≡ d
+  list_of_past n j h = get_or-eq_default (list_of f n) d (let e = list_of-length n in omega arith)
 
-pub number-set-same : (X : Vectors) (e t : ℕ) (r : List ℕ) → e < length X → number (set X e r) e t ≡ get_or r t 0
-number-set-same X e t r h = ap (λ (l : List ℕ). get_or l t 0) (get_or-set_same X e r [] h)
+pub number_set_same : (X : Vectors) (e t : ℕ) (r : List ℕ) → e < length X → number (set X e r) e t ≡ get_or r t 0
+number_set_same X e t r h = ap (λ (l : List ℕ). get_or l t 0) (get_or-set_same X e r [] h)
 
-pub number-set-other : (X : Vectors) (e a t : ℕ) (r : List ℕ) → ¬ (a ≡ e) → number (set X e r) a t ≡ number X a t
-number-set-other X e a t r h = ap (λ (l : List ℕ). get_or l t 0) (get_or-set_other X e a r [] h)
+pub number_set_other : (X : Vectors) (e a t : ℕ) (r : List ℕ) → ¬ (a ≡ e) → number (set X e r) a t ≡ number X a t
+number_set_other X e a t r h = ap (λ (l : List ℕ). get_or l t 0) (get_or-set_other X e a r [] h)
 
 -- a property of 0 and of each number of a row is one of what is read in it
-pub row-with : (P : ℕ → Type 0) (f : ℕ → ℕ) (T t : ℕ) → P 0 → (t < T → P (f t)) → P (get_or (list_of f T) t 0)
-row-with P f T t z h =
-    cases (ltb t T) (λ a. let l = ltb-true t T a in subst P (sym (listOf-at f 0 T t l)) (h l))
-    (λ a. subst P (sym (listOf-past f 0 T t (ltb-false t T a))) z)
+pub row_with : (P : ℕ → Type 0) (f : ℕ → ℕ) (T t : ℕ) → P 0 → (t < T → P (f t)) → P (get_or (list_of f T) t 0)
+row_with P f T t z h =
+    cases (ltb t T) (λ a. let l = ltb-true t T a in subst P (sym (list_of_at f 0 T t l)) (h l))
+    (λ a. subst P (sym (list_of_past f 0 T t (ltb-false t T a))) z)

@@ -7,77 +7,77 @@ use mathlib.Core.List.{List, []}
 use native.Mathlib.Nat.{not-suc-le-zero, zero-mul}
 use lib.ListN.{length}
 use Rattle.model.specs.declared.Analysis.{Analysis}
-use Rattle.model.specs.Numbers.{list_from, each, flatMapTails, picked}
+use Rattle.model.specs.Numbers.{list_from, each, flat_map_tails, picked}
 use Rattle.model.specs.Recording.{Recording, size, tasks, cells}
 use Rattle.model.specs.Vectors.{flat, start}
-use Rattle.model.specs.Passes.{passTo, pass, Run, further, run}
-use Rattle.model.specs.Recorded.{recordedTo, recorded}
-use Rattle.model.specs.Pairs.{cellEntries, entriesIn, taskOrder, entries, listed}
-use Rattle.model.specs.Analysing.{workFits, filled, done}
+use Rattle.model.specs.Passes.{pass_to, pass, Run, further, run}
+use Rattle.model.specs.Recorded.{recorded_to, recorded}
+use Rattle.model.specs.Pairs.{cell_entries, entries_in, task_order, entries, listed}
+use Rattle.model.specs.Analysing.{work_fits, filled, done}
 use Rattle.model.proofs.Tests.{le-leb}
 use Rattle.model.proofs.Each.{each_none}
 
 -- its run with a budget
-abbrev runNone : ℕ → Run
-runNone zero = record { passes = 0; settled = false; vectors = [] }
-runNone (suc b) = record { passes = 1; settled = true; vectors = [] }
+abbrev run_none : ℕ → Run
+run_none zero = record { passes = 0; settled = false; vectors = [] }
+run_none (suc b) = record { passes = 1; settled = true; vectors = [] }
 
 module _ (E : Recording) (none : size E ≡ 0) where
   start_none : start E ≡ []
   unfolding start list_from
   start_none = rw none
 
-  pass-none : pass E [] ≡ []
-  unfolding pass passTo
-  pass-none = rw none
+  pass_none : pass E [] ≡ []
+  unfolding pass pass_to
+  pass_none = rw none
 
-  recorded-none : recorded E ≡ []
-  unfolding recorded recordedTo
-  recorded-none = rw none start_none
+  recorded_none : recorded E ≡ []
+  unfolding recorded recorded_to
+  recorded_none = rw none start_none
 
   -- ---- the run: its first pass is quiet
 
-  first-pass : further E (runNone zero) ≡ runNone (suc zero)
+  first_pass : further E (run_none zero) ≡ run_none (suc zero)
   unfolding further
-  first-pass = rw pass-none
+  first_pass = rw pass_none
 
-  run_none : (b : ℕ) → run E b ≡ runNone b
+  run_none_lem : (b : ℕ) → run E b ≡ run_none b
   unfolding run further
-  run_none zero = rw start_none
-  run_none (suc zero) = ap (further E) (run_none zero) ∙ first-pass
-  run_none (suc (suc b)) = ap (further E) (run_none (suc b))
+  run_none_lem zero = rw start_none
+  run_none_lem (suc zero) = ap (further E) (run_none_lem zero) ∙ first_pass
+  run_none_lem (suc (suc b)) = ap (further E) (run_none_lem (suc b))
 
   -- ---- the list: no event stands in task order
 
-  order-none : taskOrder E.events (tasks E) ≡ []
-  unfolding taskOrder picked each
-  order-none = each_none _ (tasks E) (λ t l. rw none)
+  order_none : task_order E.events (tasks E) ≡ []
+  unfolding task_order picked each
+  order_none = each_none _ (tasks E) (λ t l. rw none)
 
-  pub listed-none : (b : ℕ) → listed E b ≡ []
-  unfolding listed entries entriesIn cellEntries flatMapTails
-  listed-none b = rw order-none (each_none _ (cells E) (λ c l. refl))
+  pub listed_none : (b : ℕ) → listed E b ≡ []
+  unfolding listed entries entries_in cell_entries flat_map_tails
+  listed_none b = rw order_none (each_none _ (cells E) (λ c l. refl))
 
   -- ---- what analysing answers
 
-  done-by : (b : ℕ) → done E b ≡ Analysis.Done (runNone b).passes (runNone b).settled 0
-  done-by b = ap₂ (λ (r : Run) (n : ℕ). Analysis.Done r.passes r.settled n) (run_none b) (ap length (listed-none b))
+  done_by : (b : ℕ) → done E b ≡ Analysis.Done (run_none b).passes (run_none b).settled 0
+  done_by b = ap₂ (λ (r : Run) (n : ℕ). Analysis.Done r.passes r.settled n) (run_none_lem b) (ap length (listed_none b))
 
-  pub done-unspent : done E 0 ≡ Analysis.Done 0 false 0
-  done-unspent = done-by 0
+  pub done_unspent : done E 0 ≡ Analysis.Done 0 false 0
+  done_unspent = done_by 0
 
-  pub done-quiet : (b : ℕ) → 0 < b → done E b ≡ Analysis.Done 1 true 0
-  done-quiet zero l = absurd (not-suc-le-zero l)
-  done-quiet (suc b) l = done-by (suc b)
+  pub done_quiet : (b : ℕ) → 0 < b → done E b ≡ Analysis.Done 1 true 0
+  done_quiet zero l = absurd (not-suc-le-zero l)
+  done_quiet (suc b) l = done_by (suc b)
 
   -- ---- the work memory: none is needed, and none is filled
 
-  pub work_none : (w : List ℕ) → workFits E w ≡ true
+  pub work_none : (w : List ℕ) → work_fits E w ≡ true
   work_none w = rw (none, zero-mul (tasks E)) (le-leb 0 (length w) zero-le)
 
-  no-vectors : (b : ℕ) → (run E b).vectors ≡ []
-  no-vectors zero = rw (run_none zero)
-  no-vectors (suc b) = rw (run_none (suc b))
+  no_vectors : (b : ℕ) → (run E b).vectors ≡ []
+  no_vectors zero = rw (run_none_lem zero)
+  no_vectors (suc b) = rw (run_none_lem (suc b))
 
   pub filled_none : (b : ℕ) (w : List ℕ) → filled E b w ≡ w
   unfolding filled flat
-  filled_none b w = rw (no-vectors b, recorded-none, none, zero-mul (tasks E))
+  filled_none b w = rw (no_vectors b, recorded_none, none, zero-mul (tasks E))

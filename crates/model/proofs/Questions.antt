@@ -7,14 +7,14 @@ use mathlib.Core.Bool.{Bool, true, false, cond}
 use Rattle.model.specs.declared.Relation.{Relation}
 use Rattle.model.specs.Recording.{Recording, size, event, Accepted}
 use Rattle.model.specs.Vectors.{ordered, unordered}
-use Rattle.model.specs.Passes.{safeVectors}
+use Rattle.model.specs.Passes.{safe_vectors}
 use Rattle.model.specs.Recorded.{recorded}
 use Rattle.model.specs.Pairs.{conflict, OnList}
-use Rattle.model.specs.Question.{relationOf}
+use Rattle.model.specs.Question.{relation_of}
 use Rattle.model.specs.Questions.{QuestionPromise, QuestionPromised}
-use Rattle.model.proofs.Listed.{race-apart, mark-by, mark-tells}
-use Rattle.model.proofs.Promise.{on_list, ordered-always, put, both_ways}
-use Rattle.model.proofs.Files.{accepted-recording}
+use Rattle.model.proofs.Listed.{race_apart, mark_by, mark_tells}
+use Rattle.model.proofs.Promise.{on_list, ordered_always, put, both_ways}
+use Rattle.model.proofs.Files.{accepted_recording}
 
 -- ---- the answer by its tests: a is ordered before b, b before a, and the recorded vectors do not order them
 
@@ -43,37 +43,37 @@ marked v = cond v 1 0
 
 module _ (E : Recording) (acc : Accepted E) (a b : ℕ) (k : a < size E) (l : b < size E) (apart : ¬ (a ≡ b)) (budget : ℕ) where
   abbrev before : Bool
-  before = ordered E.events (safeVectors E budget) a b
+  before = ordered E.events (safe_vectors E budget) a b
 
   abbrev after : Bool
-  after = ordered E.events (safeVectors E budget) b a
+  after = ordered E.events (safe_vectors E budget) b a
 
   abbrev free : Bool
   free = unordered E.events (recorded E) a b
 
-  tells : (r : Relation) → relationOf E a b budget ≡ r → Told before after free r
-  unfolding relationOf
+  tells : (r : Relation) → relation_of E a b budget ≡ r → Told before after free r
+  unfolding relation_of
   tells r h = subst (Told before after free) h (told before after free)
 
   -- ---- the answer and the list
 
   enlisted : (v : Bool) → conflict (event E a) (event E b) ≡ true → before ≡ false → after ≡ false → free ≡ v → OnList E a b budget (marked v)
-  enlisted v t p q u = subst (OnList E a b budget) (mark-by E (recorded E) a b v u) (put E acc budget a b k l t p q)
+  enlisted v t p q u = subst (OnList E a b budget) (mark_by E (recorded E) a b v u) (put E acc budget a b k l t p q)
 
-  told-listed : (v : Bool) → OnList E a b budget (marked v) → (before ≡ false) × (after ≡ false) × (free ≡ v)
-  told-listed v h =
+  told_listed : (v : Bool) → OnList E a b budget (marked v) → (before ≡ false) × (after ≡ false) × (free ≡ v)
+  told_listed v h =
       let r = on_list E budget a b (marked v) h in
-      let (p, q) = race-apart E (safeVectors E budget) a b r.race in
-      (p, q, mark-tells E (recorded E) a b v (sym r.marked))
+      let (p, q) = race_apart E (safe_vectors E budget) a b r.race in
+      (p, q, mark_tells E (recorded E) a b v (sym r.marked))
 
-  listed-as : (v : Bool) → conflict (event E a) (event E b) ≡ true → (relationOf E a b budget ≡ standing v) ↔ OnList E a b budget (marked v)
-  unfolding relationOf
-  listed-as v t = (
+  listed_as : (v : Bool) → conflict (event E a) (event E b) ≡ true → (relation_of E a b budget ≡ standing v) ↔ OnList E a b budget (marked v)
+  unfolding relation_of
+  listed_as v t = (
     λ h. let (p, q, u) = by v h in enlisted v t p q u,
-    λ h. let (p, q, u) = told-listed v h in rw (p, q, u),
+    λ h. let (p, q, u) = told_listed v h in rw (p, q, u),
   )
     where
-      by : (v : Bool) → relationOf E a b budget ≡ standing v → (before ≡ false) × (after ≡ false) × (free ≡ v)
+      by : (v : Bool) → relation_of E a b budget ≡ standing v → (before ≡ false) × (after ≡ false) × (free ≡ v)
       by true h = tells Relation.Sure h
       by false h = tells Relation.Open h
 
@@ -82,12 +82,12 @@ module _ (E : Recording) (acc : Accepted E) (a b : ℕ) (k : a < size E) (l : b 
   promise : QuestionPromise E a b budget
   promise =
       record {
-        sure-listed = listed-as true;
-        open-listed = listed-as false;
-        first = λ h. ordered-always E acc budget a b k l (tells Relation.First h);
-        second = λ h. ordered-always E acc budget b a l k (tells Relation.Second h);
-        sure = λ h. both_ways E acc a b (record { first-inside = k; second-inside = l; apart = apart; free = (tells Relation.Sure h).2 });
+        sure_listed = listed_as true;
+        open_listed = listed_as false;
+        first = λ h. ordered_always E acc budget a b k l (tells Relation.First h);
+        second = λ h. ordered_always E acc budget b a l k (tells Relation.Second h);
+        sure = λ h. both_ways E acc a b (record { first_inside = k; second_inside = l; apart = apart; free = (tells Relation.Sure h).2 });
       }
 
-pub question-promise : QuestionPromised
-question-promise f h q a b k l apart budget = promise _ (accepted-recording f h q) a b k l apart budget
+pub question_promise : QuestionPromised
+question_promise f h q a b k l apart budget = promise _ (accepted_recording f h q) a b k l apart budget

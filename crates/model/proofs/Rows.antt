@@ -13,15 +13,15 @@ use Rattle.model.specs.declared.Relation.{Relation}
 use Rattle.model.specs.declared.Answer.{Answer}
 use Rattle.model.specs.declared.Written.{Written}
 use Rattle.model.specs.declared.Joint.{Joint}
-use Rattle.model.specs.Refusals.{number_of, recordOf, differingTask, differingPosition, unless, and_then}
+use Rattle.model.specs.Refusals.{number_of, record_of, differing_task, differing_position, unless, and_then}
 use Rattle.model.specs.Recording.{size, tasks}
-use Rattle.model.specs.File.{recordingOf}
-use Rattle.model.specs.Reading.{fileCheck}
-use Rattle.model.specs.Passes.{budgetOf}
+use Rattle.model.specs.File.{recording_of}
+use Rattle.model.specs.Reading.{file_check}
+use Rattle.model.specs.Passes.{budget_of}
 use Rattle.model.specs.Pairs.{listed}
-use Rattle.model.specs.Analysing.{workCheck, analysisCheck}
+use Rattle.model.specs.Analysing.{work_check, analysis_check}
 use Rattle.model.specs.Text.{bytes}
-use Rattle.model.specs.Report.{reportBy, ifLong, isLong, reportOf}
+use Rattle.model.specs.Report.{report_by, if_long, is_long, report_of}
 use Rattle.model.specs.Rows.Starred.{of, W, file, B, G, RefusedAlone}
 use Rattle.model.specs.Rows.Faults.{Faults}
 use Rattle.model.specs.Rows.Parts.{Parts}
@@ -40,35 +40,35 @@ use Rattle.model.proofs.Computing.{rows, refusal}
 pub faults : Faults
 unfolding rows
 faults = record {
-  edition-before-extent = refusal Reading.Refused Refusal.Edition;
-  extent-before-count = refusal Reading.Refused Refusal.Extent;
-  count-before-records = refusal Reading.Refused Refusal.Count;
-  first-record = refusal Reading.Refused (Refusal.Empty 0);
-  kind-before-name = refusal Reading.Refused (Refusal.Kind 0);
-  name-before-life = refusal Reading.Refused (Refusal.Name 0);
-  life-before-empty = refusal Reading.Refused (Refusal.Life 2);
+  edition_before_extent = refusal Reading.Refused Refusal.Edition;
+  extent_before_count = refusal Reading.Refused Refusal.Extent;
+  count_before_records = refusal Reading.Refused Refusal.Count;
+  first_record = refusal Reading.Refused (Refusal.Empty 0);
+  kind_before_name = refusal Reading.Refused (Refusal.Kind 0);
+  name_before_life = refusal Reading.Refused (Refusal.Name 0);
+  life_before_empty = refusal Reading.Refused (Refusal.Life 2);
   kind_0 = refusal Reading.Refused (Refusal.Kind 1);
-  kind-7 = refusal Reading.Refused (Refusal.Kind 1);
+  kind_7 = refusal Reading.Refused (Refusal.Kind 1);
   names = refl;
-  task-3 = refusal Reading.Refused (Refusal.Name 0);
-  signal-1 = refusal Reading.Refused (Refusal.Name 0);
-  wait-1 = refusal Reading.Refused (Refusal.Name 0);
-  fork-3 = refusal Reading.Refused (Refusal.Name 0);
-  join-3 = refusal Reading.Refused (Refusal.Name 0);
-  read-2 = refusal Reading.Refused (Refusal.Name 0);
-  write-2 = refusal Reading.Refused (Refusal.Name 0);
+  task_3 = refusal Reading.Refused (Refusal.Name 0);
+  signal_1 = refusal Reading.Refused (Refusal.Name 0);
+  wait_1 = refusal Reading.Refused (Refusal.Name 0);
+  fork_3 = refusal Reading.Refused (Refusal.Name 0);
+  join_3 = refusal Reading.Refused (Refusal.Name 0);
+  read_2 = refusal Reading.Refused (Refusal.Name 0);
+  write_2 = refusal Reading.Refused (Refusal.Name 0);
   no_cells = refl;
-  joined-goes-on = refusal Reading.Refused (Refusal.Life 2);
-  forks-itself = refusal Reading.Refused (Refusal.Life 0);
-  forked-twice = refusal Reading.Refused (Refusal.Life 1);
-  forked-late = refusal Reading.Refused (Refusal.Life 1);
-  joins-itself = refusal Reading.Refused (Refusal.Life 1);
-  joined-unforked = refusal Reading.Refused (Refusal.Life 1);
-  joined-twice = refusal Reading.Refused (Refusal.Life 2);
-  waits-twice = refusal Reading.Refused (Refusal.Empty 2);
-  waits-early = refusal Reading.Refused (Refusal.Empty 0);
-  waits-on-another = refusal Reading.Refused (Refusal.Empty 1);
-  served-twice = refl;
+  joined_goes_on = refusal Reading.Refused (Refusal.Life 2);
+  forks_itself = refusal Reading.Refused (Refusal.Life 0);
+  forked_twice = refusal Reading.Refused (Refusal.Life 1);
+  forked_late = refusal Reading.Refused (Refusal.Life 1);
+  joins_itself = refusal Reading.Refused (Refusal.Life 1);
+  joined_unforked = refusal Reading.Refused (Refusal.Life 1);
+  joined_twice = refusal Reading.Refused (Refusal.Life 2);
+  waits_twice = refusal Reading.Refused (Refusal.Empty 2);
+  waits_early = refusal Reading.Refused (Refusal.Empty 0);
+  waits_on_another = refusal Reading.Refused (Refusal.Empty 1);
+  served_twice = refl;
 }
 
 pub parts : Parts
@@ -76,62 +76,62 @@ unfolding rows
 parts = record {
   fields = refl;
   kept_read = refl;
-  kept-preamble = refl;
-  kept-records = refl;
-  kept-starts = refl;
-  kept-posts = refl;
-  stocked-read = refl;
-  stocked-preamble = refl;
-  stocked-records = refl;
-  stocked-starts = refl;
-  stocked-posts = refl;
-  flagged-read = refl;
-  flagged-preamble = refl;
-  flagged-records = refl;
-  flagged-starts = refl;
-  flagged-posts = refl;
-  broken-read = refusal Reading.Refused (Refusal.Empty 0);
-  broken-preamble = refl;
-  broken-records = refl;
-  broken-starts = refl;
-  broken-posts = refl;
-  step-0 = refl;
-  step-1 = refl;
-  step-2 = refl;
-  step-3 = refl;
+  kept_preamble = refl;
+  kept_records = refl;
+  kept_starts = refl;
+  kept_posts = refl;
+  stocked_read = refl;
+  stocked_preamble = refl;
+  stocked_records = refl;
+  stocked_starts = refl;
+  stocked_posts = refl;
+  flagged_read = refl;
+  flagged_preamble = refl;
+  flagged_records = refl;
+  flagged_starts = refl;
+  flagged_posts = refl;
+  broken_read = refusal Reading.Refused (Refusal.Empty 0);
+  broken_preamble = refl;
+  broken_records = refl;
+  broken_starts = refl;
+  broken_posts = refl;
+  step_0 = refl;
+  step_1 = refl;
+  step_2 = refl;
+  step_3 = refl;
 }
 
 pub raised : Raised
 unfolding rows
 raised = record {
-  waited-twice = (refl, refl, refl);
-  waited-twice-recorded = refl;
-  forked-0 = (refl, refl, refl);
+  waited_twice = (refl, refl, refl);
+  waited_twice_recorded = refl;
+  forked_0 = (refl, refl, refl);
   forked = (refl, refl, refl);
-  forked-recorded = refl;
-  idle-joined = (refl, refl, refl);
-  idle-joined-recorded = refl;
-  nothing-shared = (refl, refl, refl);
-  two-semaphores = (refl, refl, refl);
-  two-semaphores-recorded = refl;
-  handed-on = (refl, refl, refl);
-  slow-1 = (refl, refl, refl);
-  slow-2 = (refl, refl, refl);
-  slow-settled = (refl, refl, refl);
-  slow-recorded = refl;
+  forked_recorded = refl;
+  idle_joined = (refl, refl, refl);
+  idle_joined_recorded = refl;
+  nothing_shared = (refl, refl, refl);
+  two_semaphores = (refl, refl, refl);
+  two_semaphores_recorded = refl;
+  handed_on = (refl, refl, refl);
+  slow_1 = (refl, refl, refl);
+  slow_2 = (refl, refl, refl);
+  slow_settled = (refl, refl, refl);
+  slow_recorded = refl;
 }
 
-pub looked-at : LookedAt
+pub looked_at : LookedAt
 unfolding rows
-looked-at = record {
+looked_at = record {
   joined = (refl, refl);
-  joined-in-part = (refl, refl);
-  last-record = (refl, refl);
-  first-record = (refl, refl);
+  joined_in_part = (refl, refl);
+  last_record = (refl, refl);
+  first_record = (refl, refl);
   no_record = (refl, refl);
   no_bytes = (refl, refl);
-  three-bytes = (refl, refl);
-  seven-bytes = (refl, refl);
+  three_bytes = (refl, refl);
+  seven_bytes = (refl, refl);
 }
 
 pub conflicts : Conflicts
@@ -140,10 +140,10 @@ conflicts = record {
   reads = refl;
   writes = refl;
   single_reads = refl;
-  single-writes = refl;
-  one-task = refl;
+  single_writes = refl;
+  one_task = refl;
   two_cells = refl;
-  one-task-two-cells = refl;
+  one_task_two_cells = refl;
   no_access = refl;
   no_kind = refl;
 }
@@ -151,24 +151,24 @@ conflicts = record {
 pub single : Single
 unfolding rows
 single = record {
-  both-write = (refl, refl);
+  both_write = (refl, refl);
   one_writes = (refl, refl);
-  write-plain-read = (refl, refl);
-  write-plain-write = (refl, refl);
-  read-plain-write = (refl, refl);
-  read-plain-read = (refl, refl);
-  among-three = (refl, refl);
+  write_plain_read = (refl, refl);
+  write_plain_write = (refl, refl);
+  read_plain_write = (refl, refl);
+  read_plain_read = (refl, refl);
+  among_three = (refl, refl);
   kinds = refl;
-  kind-9-edition-1 = refusal Reading.Refused (Refusal.Kind 0);
-  kind-10-edition-1 = refusal Reading.Refused (Refusal.Kind 0);
-  kind-9-edition-2 = refusal Reading.Refused (Refusal.Kind 0);
-  kind-10-edition-2 = refusal Reading.Refused (Refusal.Kind 0);
-  kind-11 = refusal Reading.Refused (Refusal.Kind 0);
-  kind-10-written = refl;
-  kind-10-edition-2-written = refusal Written.Refused (Refusal.Kind 0);
-  kind-11-written = refusal Written.Refused (Refusal.Kind 0);
-  cell-1-read = refusal Reading.Refused (Refusal.Name 0);
-  cell-1-written = refusal Reading.Refused (Refusal.Name 0);
+  kind_9_edition_1 = refusal Reading.Refused (Refusal.Kind 0);
+  kind_10_edition_1 = refusal Reading.Refused (Refusal.Kind 0);
+  kind_9_edition_2 = refusal Reading.Refused (Refusal.Kind 0);
+  kind_10_edition_2 = refusal Reading.Refused (Refusal.Kind 0);
+  kind_11 = refusal Reading.Refused (Refusal.Kind 0);
+  kind_10_written = refl;
+  kind_10_edition_2_written = refusal Written.Refused (Refusal.Kind 0);
+  kind_11_written = refusal Written.Refused (Refusal.Kind 0);
+  cell_1_read = refusal Reading.Refused (Refusal.Name 0);
+  cell_1_written = refusal Reading.Refused (Refusal.Name 0);
 }
 
 pub table : Table
@@ -183,134 +183,134 @@ table = record {
   life = refusal Reading.Refused (Refusal.Life 1);
   empty = refusal Reading.Refused (Refusal.Empty 1);
   work = refusal Analysis.Refused Refusal.Work;
-  work-3 = refusal Analysis.Refused Refusal.Work;
-  work-asked = refusal Answer.Refused Refusal.Work;
+  work_3 = refusal Analysis.Refused Refusal.Work;
+  work_asked = refusal Answer.Refused Refusal.Work;
   list = refusal Analysis.Refused (Refusal.List 1);
-  list-3 = refusal Analysis.Refused (Refusal.List 3);
-  event-a = refusal Answer.Refused Refusal.Event;
-  event-b = refusal Answer.Refused Refusal.Event;
-  event-same = refusal Answer.Refused Refusal.Event;
+  list_3 = refusal Analysis.Refused (Refusal.List 3);
+  event_a = refusal Answer.Refused Refusal.Event;
+  event_b = refusal Answer.Refused Refusal.Event;
+  event_same = refusal Answer.Refused Refusal.Event;
   out = refusal Written.Refused Refusal.Out;
-  out-starts = refusal Written.Refused Refusal.Out;
-  out-posts = refusal Written.Refused Refusal.Out;
+  out_starts = refusal Written.Refused Refusal.Out;
+  out_posts = refusal Written.Refused Refusal.Out;
   starts = refusal Written.Refused Refusal.Starts;
   starts_more = refusal Written.Refused Refusal.Starts;
-  starts-edition-1 = refusal Written.Refused Refusal.Starts;
-  starts-edition-3 = refusal Written.Refused Refusal.Starts;
-  starts-more-edition-3 = refusal Written.Refused Refusal.Starts;
+  starts_edition_1 = refusal Written.Refused Refusal.Starts;
+  starts_edition_3 = refusal Written.Refused Refusal.Starts;
+  starts_more_edition_3 = refusal Written.Refused Refusal.Starts;
   posts = refusal Written.Refused Refusal.Starts;
-  posts-more = refusal Written.Refused Refusal.Starts;
-  posts-as-starts = refusal Written.Refused Refusal.Starts;
-  posts-edition-1 = refusal Written.Refused Refusal.Starts;
-  posts-edition-2 = refusal Written.Refused Refusal.Starts;
+  posts_more = refusal Written.Refused Refusal.Starts;
+  posts_as_starts = refusal Written.Refused Refusal.Starts;
+  posts_edition_1 = refusal Written.Refused Refusal.Starts;
+  posts_edition_2 = refusal Written.Refused Refusal.Starts;
   flag = refusal Reading.Refused (Refusal.Flag 1);
-  edition-0-written = refusal Written.Refused Refusal.Edition;
-  edition-4-written = refusal Written.Refused Refusal.Edition;
-  extent-written = refusal Written.Refused Refusal.Extent;
-  count-written = refusal Written.Refused Refusal.Count;
-  flags-written = refusal Written.Refused Refusal.Count;
-  kind-written = refusal Written.Refused (Refusal.Kind 1);
-  empty-written = refusal Written.Refused (Refusal.Empty 1);
-  flag-written = refusal Written.Refused (Refusal.Flag 1);
-  post-0 = refusal Written.Refused Refusal.Count;
-  post-0-edition-2 = refusal Written.Refused Refusal.Count;
-  post-0-edition-1 = refusal Written.Refused Refusal.Count;
-  file-before-work = refusal Analysis.Refused (Refusal.Life 0);
-  file-before-event = refusal Answer.Refused (Refusal.Life 0);
-  event-before-work = refusal Answer.Refused Refusal.Event;
-  work-before-list = refusal Analysis.Refused Refusal.Work;
-  edition-before-extent = refusal Written.Refused Refusal.Edition;
-  extent-before-count = refusal Written.Refused Refusal.Extent;
-  extent-before-post = refusal Written.Refused Refusal.Extent;
-  extent-before-kind = refusal Written.Refused Refusal.Extent;
-  count-before-starts = refusal Written.Refused Refusal.Count;
-  post-before-starts = refusal Written.Refused Refusal.Count;
-  starts-before-record = refusal Written.Refused Refusal.Starts;
-  posts-before-record = refusal Written.Refused Refusal.Starts;
-  record-before-out = refusal Written.Refused (Refusal.Life 0);
-  flag-before-out = refusal Written.Refused (Refusal.Flag 0);
+  edition_0_written = refusal Written.Refused Refusal.Edition;
+  edition_4_written = refusal Written.Refused Refusal.Edition;
+  extent_written = refusal Written.Refused Refusal.Extent;
+  count_written = refusal Written.Refused Refusal.Count;
+  flags_written = refusal Written.Refused Refusal.Count;
+  kind_written = refusal Written.Refused (Refusal.Kind 1);
+  empty_written = refusal Written.Refused (Refusal.Empty 1);
+  flag_written = refusal Written.Refused (Refusal.Flag 1);
+  post_0 = refusal Written.Refused Refusal.Count;
+  post_0_edition_2 = refusal Written.Refused Refusal.Count;
+  post_0_edition_1 = refusal Written.Refused Refusal.Count;
+  file_before_work = refusal Analysis.Refused (Refusal.Life 0);
+  file_before_event = refusal Answer.Refused (Refusal.Life 0);
+  event_before_work = refusal Answer.Refused Refusal.Event;
+  work_before_list = refusal Analysis.Refused Refusal.Work;
+  edition_before_extent = refusal Written.Refused Refusal.Edition;
+  extent_before_count = refusal Written.Refused Refusal.Extent;
+  extent_before_post = refusal Written.Refused Refusal.Extent;
+  extent_before_kind = refusal Written.Refused Refusal.Extent;
+  count_before_starts = refusal Written.Refused Refusal.Count;
+  post_before_starts = refusal Written.Refused Refusal.Count;
+  starts_before_record = refusal Written.Refused Refusal.Starts;
+  posts_before_record = refusal Written.Refused Refusal.Starts;
+  record_before_out = refusal Written.Refused (Refusal.Life 0);
+  flag_before_out = refusal Written.Refused (Refusal.Flag 0);
   a_first = (Relation.First, refl, refl);
-  b-first = (Relation.Second, refl, refl);
+  b_first = (Relation.Second, refl, refl);
   is_open = (Relation.Open, refl, refl);
-  open-back = (Relation.Open, refl, refl);
-  is-sure = (Relation.Sure, refl, refl);
+  open_back = (Relation.Open, refl, refl);
+  is_sure = (Relation.Sure, refl, refl);
 }
 
 pub lent : Lent
 unfolding rows
 lent = record {
   work_start = refl;
-  work-raised = refl;
-  work-three-tasks = refl;
-  list-one = refl;
-  list-none = refl;
-  file-work = refl;
-  file-list = refl;
-  work-short-work = refl;
-  work-short-list = refl;
-  list-short-list = refl;
+  work_raised = refl;
+  work_three_tasks = refl;
+  list_one = refl;
+  list_none = refl;
+  file_work = refl;
+  file_list = refl;
+  work_short_work = refl;
+  work_short_list = refl;
+  list_short_list = refl;
   a_first = refl;
-  b-first = refl;
+  b_first = refl;
   is_open = refl;
-  is-sure = refl;
-  ask-file = refl;
-  ask-event = refl;
-  ask-work-short = refl;
+  is_sure = refl;
+  ask_file = refl;
+  ask_event = refl;
+  ask_work_short = refl;
   length = refl;
   written = refl;
-  no-records = refl;
-  just-fits = refl;
-  length-starts = refl;
-  written-starts = refl;
-  length-posts = refl;
-  written-posts = refl;
-  record-refused = refl;
-  starts-refused = refl;
-  posts-refused = refl;
-  out-short = refl;
+  no_records = refl;
+  just_fits = refl;
+  length_starts = refl;
+  written_starts = refl;
+  length_posts = refl;
+  written_posts = refl;
+  record_refused = refl;
+  starts_refused = refl;
+  posts_refused = refl;
+  out_short = refl;
 }
 
 -- ---- what is printed, by how many numbers are lent: a row then need not make the program's 57,344
 
-checkByLengths : List ℕ → ℕ → ℕ → Check
-checkByLengths f m n =
-    let E = recordingOf f in
-    let pairs = length (listed E (budgetOf E)) in
-    and_then (and_then (fileCheck f) λ _. unless (leb (2 * (size E * tasks E)) m) Refusal.Work λ _. Check.Passed) λ _.
+check_by_lengths : List ℕ → ℕ → ℕ → Check
+check_by_lengths f m n =
+    let E = recording_of f in
+    let pairs = length (listed E (budget_of E)) in
+    and_then (and_then (file_check f) λ _. unless (leb (2 * (size E * tasks E)) m) Refusal.Work λ _. Check.Passed) λ _.
     unless (leb (3 * pairs) n) (Refusal.List pairs) λ _. Check.Passed
 
-reportByLengths : List ℕ → ℕ → ℕ → List ℕ
-reportByLengths f m n = ifLong (isLong f) (bytes "too long\n") λ _. let E = recordingOf f in reportBy E (budgetOf E) (checkByLengths f m n)
+report_by_lengths : List ℕ → ℕ → ℕ → List ℕ
+report_by_lengths f m n = if_long (is_long f) (bytes "too long\n") λ _. let E = recording_of f in report_by E (budget_of E) (check_by_lengths f m n)
 
-by_lengths : (f work list : List ℕ) → reportOf f work list ≡ reportByLengths f (length work) (length list)
-unfolding reportOf analysisCheck workCheck checkByLengths reportByLengths
+by_lengths : (f work list : List ℕ) → report_of f work list ≡ report_by_lengths f (length work) (length list)
+unfolding report_of analysis_check work_check check_by_lengths report_by_lengths
 by_lengths f work list = refl
 
-with-room : (f : List ℕ) {text : List ℕ} → reportByLengths f 32768 24576 ≡ text → reportOf f (replicate 32768 0) (replicate 24576 0) ≡ text
-with-room f q =
+with_room : (f : List ℕ) {text : List ℕ} → report_by_lengths f 32768 24576 ≡ text → report_of f (replicate 32768 0) (replicate 24576 0) ≡ text
+with_room f q =
     by_lengths f (replicate 32768 0) (replicate 24576 0)
-    ∙ ap₂ (reportByLengths f) (length-replicate {A = ℕ} 32768 0) (length-replicate {A = ℕ} 24576 0)
+    ∙ ap₂ (report_by_lengths f) (length-replicate {A = ℕ} 32768 0) (length-replicate {A = ℕ} 24576 0)
     ∙ q
 
 pub printed : Printed
-unfolding rows checkByLengths reportByLengths
+unfolding rows check_by_lengths report_by_lengths
 printed = record {
-  g = with-room G refl;
+  g = with_room G refl;
   i = refl;
   j = refl;
-  no-events = with-room (file 1 0 0 []) refl;
-  is_open = with-room B refl;
-  two_cells = with-room (file 2 0 2 (of 6 0 1 ++ of 6 1 1 ++ W 0 ++ W 1)) refl;
-  at-record = refl;
+  no_events = with_room (file 1 0 0 []) refl;
+  is_open = with_room B refl;
+  two_cells = with_room (file 2 0 2 (of 6 0 1 ++ of 6 1 1 ++ W 0 ++ W 1)) refl;
+  at_record_lem = refl;
   list_full = refl;
   budget = refl;
   unsettled = refl;
-  bytes-16384 = refl;
-  bytes-16385 = refl;
-  work-left = refl;
+  bytes_16384 = refl;
+  bytes_16385 = refl;
+  work_left = refl;
   list_left = refl;
-  work-kept = refl;
-  list-kept = refl;
+  work_kept = refl;
+  list_kept = refl;
   zero = refl;
   nine = refl;
   ten = refl;
@@ -318,28 +318,28 @@ printed = record {
   cut_off = refl;
   fits = refl;
   beyond = refl;
-  fills-9 = refl;
-  fills-12 = refl;
+  fills_9 = refl;
+  fills_12 = refl;
 }
 
 pub beyond : Beyond
 unfolding rows
 beyond = record {
-  no-trailer = refl;
+  no_trailer = refl;
   no_record = refl;
-  no-event = refl;
+  no_event_lem = refl;
   kind_0 = refl;
-  kind-7 = refl;
-  kind-11 = refl;
-  no-vector = refl;
-  no-task = refl;
+  kind_7 = refl;
+  kind_11 = refl;
+  no_vector = refl;
+  no_task = refl;
   no_place = refl;
-  no-match = refl;
-  fewer-than-k = refl;
-  k-0 = refl;
-  bits-17 = refl;
-  bits-33 = refl;
-  digits-21 = refl;
+  no_match = refl;
+  fewer_than_k = refl;
+  k_0 = refl;
+  bits_17 = refl;
+  bits_33 = refl;
+  digits_21 = refl;
 }
 
 pub joined : Joined
@@ -355,112 +355,112 @@ joined = record {
   h = (refl, refl);
   i = refusal Joint.Refused (Refusal.Life 0);
   j = refusal Joint.Refused (Refusal.Empty 0);
-  sure-by-second = (refl, refl);
-  sure-by-first = (refl, refl);
-  flag-by-second = (refl, refl);
-  flag-by-first = (refl, refl);
-  in_order = (refl, refl);
-  in-order-turned = (refl, refl);
+  sure_by_second = (refl, refl);
+  sure_by_first = (refl, refl);
+  flag_by_second = (refl, refl);
+  flag_by_first = (refl, refl);
+  in_order_kept = (refl, refl);
+  in_order_turned = (refl, refl);
   tasks = differ 0 0;
   semaphores = differ 0 0;
   cells = differ 0 0;
   starts = differ 0 0;
-  second-start = differ 0 0;
-  starts-edition-1 = differ 0 0;
+  second_start = differ 0 0;
+  starts_edition_1 = differ 0 0;
   editions = (refl, refl);
   flags = differ 0 0;
-  no-flags = differ 0 0;
+  no_flags = differ 0 0;
   posts = differ 0 0;
-  second-post = differ 0 0;
-  starts-edition-3 = differ 0 0;
-  posts-before-records = differ 0 0;
-  editions-1-3 = (refl, refl);
-  counts-before-records = differ 0 0;
+  second_post = differ 0 0;
+  starts_edition_3 = differ 0 0;
+  posts_before_records = differ 0 0;
+  editions_1_3 = (refl, refl);
+  counts_before_records = differ 0 0;
   kind = differ 0 2;
   object = differ 0 1;
-  missing-in-second = differ 1 2;
-  missing-in-first = differ 1 1;
-  own-order = differ 0 1;
-  lowest-task = differ 1 1;
-  tasks-swapped = differ 0 1;
-  work-first = refusal Joint.Refused Refusal.Work;
-  work-second = refusal Joint.Refused Refusal.Work;
+  missing_in_second = differ 1 2;
+  missing_in_first = differ 1 1;
+  own_order = differ 0 1;
+  lowest_task = differ 1 1;
+  tasks_swapped = differ 0 1;
+  work_first = refusal Joint.Refused Refusal.Work;
+  work_second = refusal Joint.Refused Refusal.Work;
   list = refusal Joint.Refused (Refusal.List 1);
-  first-before-second = refusal Joint.Refused (Refusal.Life 0);
-  second-before-differ = refusal Joint.Refused (Refusal.Empty 0);
-  work-before-list = refusal Joint.Refused Refusal.Work;
-  first-work = refl;
-  second-work = refl;
+  first_before_second = refusal Joint.Refused (Refusal.Life 0);
+  second_before_differ = refusal Joint.Refused (Refusal.Empty 0);
+  work_before_list = refusal Joint.Refused Refusal.Work;
+  first_work = refl;
+  second_work = refl;
   entries = refl;
-  list-short = refl;
-  work-short-first = refl;
-  work-short-second = refl;
-  work-short-list = refl;
-  differ-first = refl;
-  differ-second = refl;
-  differ-list = refl;
-  refused-first = refl;
-  refused-second = refl;
+  list_short = refl;
+  work_short_first = refl;
+  work_short_second = refl;
+  work_short_list = refl;
+  differ_first = refl;
+  differ_second = refl;
+  differ_list = refl;
+  refused_first = refl;
+  refused_second = refl;
 }
   where
     -- 14 at this task and position
-    differ : (t p : ℕ) → (r : Refusal) × (Joint.Refused (Refusal.Differ t p) ≡ Joint.Refused r) × (number_of r ≡ 14) × (recordOf r ≡ 0) × (differingTask r ≡ t) × (differingPosition r ≡ p)
+    differ : (t p : ℕ) → (r : Refusal) × (Joint.Refused (Refusal.Differ t p) ≡ Joint.Refused r) × (number_of r ≡ 14) × (record_of r ≡ 0) × (differing_task r ≡ t) × (differing_position r ≡ p)
     differ t p = (Refusal.Differ t p, refl, refl, refl, refl, refl)
 
 pub turned : Turned
 unfolding rows
 turned = record {
-  c-write = (refl, refl);
+  c_write = (refl, refl);
   c_read = (refl, refl);
-  e-write = (refl, refl);
-  e-read = (refl, refl);
-  g-write = (refl, refl);
-  g-read = (refl, refl);
-  four-write = (refl, refl);
-  four-read = (refl, refl);
-  flag-write = (refl, refl);
-  flag-read = (refl, refl);
-  with-fork = (refl, refl);
-  with-join = (refl, refl);
+  e_write = (refl, refl);
+  e_read = (refl, refl);
+  g_write = (refl, refl);
+  g_read = (refl, refl);
+  four_write = (refl, refl);
+  four_read = (refl, refl);
+  flag_write = (refl, refl);
+  flag_read = (refl, refl);
+  with_fork = (refl, refl);
+  with_join = (refl, refl);
   alone = (refl, refl);
-  no-conflict = (refl, refl);
+  no_conflict = (refl, refl);
   preamble = (refl, refl);
-  preamble-starts = (refl, refl);
+  preamble_starts = (refl, refl);
   unsure = unsure;
-  unsure-turned = unsure;
+  unsure_turned = unsure;
   is_open = unsure;
-  open-turned = unsure;
-  flag-open = unsure;
-  one-task = unsure;
-  one-task-turned = unsure;
-  event-chosen = refusal Written.Refused Refusal.Event;
-  event-other = refusal Written.Refused Refusal.Event;
-  event-same = refusal Written.Refused Refusal.Event;
-  work-short = refusal Written.Refused Refusal.Work;
-  out-short = refusal Written.Refused Refusal.Out;
-  out-fits = refl;
-  out-short-starts = refusal Written.Refused Refusal.Out;
-  out-fits-starts = refl;
-  out-short-posts = refusal Written.Refused Refusal.Out;
-  out-fits-posts = refl;
-  file-before-event = refusal Written.Refused (Refusal.Life 0);
-  event-before-work = refusal Written.Refused Refusal.Event;
-  work-before-unsure = refusal Written.Refused Refusal.Work;
-  unsure-before-out = refusal Written.Refused Refusal.Unsure;
-  work-left = refl;
-  work-unsure = refl;
-  work-left-analysed = refl;
-  work-starts-analysed = refl;
-  work-posts-analysed = refl;
-  work-unsure-analysed = refl;
-  work-event = refl;
-  work-kept = refl;
-  work-file = refl;
-  out-file = refl;
-  out-event = refl;
-  out-work = refl;
-  out-unsure = refl;
-  out-kept = refl;
+  open_turned = unsure;
+  flag_open = unsure;
+  one_task = unsure;
+  one_task_turned = unsure;
+  event_chosen = refusal Written.Refused Refusal.Event;
+  event_other = refusal Written.Refused Refusal.Event;
+  event_same = refusal Written.Refused Refusal.Event;
+  work_short = refusal Written.Refused Refusal.Work;
+  out_short = refusal Written.Refused Refusal.Out;
+  out_fits = refl;
+  out_short_starts = refusal Written.Refused Refusal.Out;
+  out_fits_starts = refl;
+  out_short_posts = refusal Written.Refused Refusal.Out;
+  out_fits_posts = refl;
+  file_before_event = refusal Written.Refused (Refusal.Life 0);
+  event_before_work = refusal Written.Refused Refusal.Event;
+  work_before_unsure = refusal Written.Refused Refusal.Work;
+  unsure_before_out = refusal Written.Refused Refusal.Unsure;
+  work_left = refl;
+  work_unsure = refl;
+  work_left_analysed = refl;
+  work_starts_analysed = refl;
+  work_posts_analysed = refl;
+  work_unsure_analysed = refl;
+  work_event = refl;
+  work_kept = refl;
+  work_file = refl;
+  out_file = refl;
+  out_event = refl;
+  out_work = refl;
+  out_unsure = refl;
+  out_kept = refl;
 }
   where
     unsure : RefusedAlone Written.Refused (Written.Refused Refusal.Unsure) 15

@@ -11,11 +11,11 @@ use native.Mathlib.Nat.{not-suc-le-zero}
 use native.Mathlib.Omega.{arith}
 use lib.Dec.{ltb, eqb}
 use Rattle.model.specs.Numbers.{last_of, found}
-use Rattle.model.specs.Recording.{event, ofTask, isFork, Recording, size, task_of, kind_of, objectOf, join}
+use Rattle.model.specs.Recording.{event, of_task, is_fork, Recording, size, task_of, kind_of, object_of, join}
 use Rattle.model.specs.Orders.{Precedes, Admissible}
-use Rattle.model.specs.Passes.{previous, forkOf, lastEvent, firstFound, beforeOrFork, joinSources, sources}
-use Rattle.model.proofs.Tests.{cases, clash, both, last-or-lower, eqb-true, eq-eqb, ltb-true, ltb-false}
-use Rattle.model.proofs.Rules.{fork-first, join_last, join-forked, one-fork}
+use Rattle.model.specs.Passes.{previous, fork_of, last_event, first_found, before_or_fork, join_sources, sources}
+use Rattle.model.proofs.Tests.{cases, clash, both, last_or_lower, eqb-true, eq-eqb, ltb-true, ltb-false}
+use Rattle.model.proofs.Rules.{fork_first, join_last, join_forked, one_fork}
 
 -- ---- the last number that passes a test
 
@@ -36,7 +36,7 @@ last_some p (suc n) x h = go (p n) refl h (λ k. last_some p n x k)
         record { inside = omega arith; passes = ap p (sym e) ∙ t; after = λ y k l. absurd (omega arith) }
     go false t h ih =
         let r = ih h in
-        record { inside = omega arith; passes = r.passes; after = λ y k l. last-or-lower l (λ e. ap p e ∙ t) (λ m. r.after y k m) }
+        record { inside = omega arith; passes = r.passes; after = λ y k l. last_or_lower l (λ e. ap p e ∙ t) (λ m. r.after y k m) }
 
 pub last_none : (p : ℕ → Bool) (n : ℕ) → last_of p n ≡ Found.Nothing → (y : ℕ) → y < n → p y ≡ false
 unfolding last_of
@@ -45,7 +45,7 @@ last_none p (suc n) h y l = go (p n) refl h (λ k. last_none p n k y)
   where
     go : (b : Bool) → p n ≡ b → ◌≡◌ {A = Found} (elim b [ true ↦ Found.At n | false ↦ last_of p n ]) Found.Nothing → (last_of p n ≡ Found.Nothing → y < n → p y ≡ false) → p y ≡ false
     go true t h ih = let z : ◌≡◌ {A = ℕ} 0 1 = cc in absurd (omega arith)
-    go false t h ih = last-or-lower l (λ e. ap p e ∙ t) (λ m. ih h m)
+    go false t h ih = last_or_lower l (λ e. ap p e ∙ t) (λ m. ih h m)
 
 -- where a number passes, a last one is found
 pub last_found : (p : ℕ → Bool) (n y : ℕ) → y < n → p y ≡ true → (x : ℕ) × (last_of p n ≡ Found.At x) × Last p n x × (y ≤ x)
@@ -61,72 +61,72 @@ last_found p n y l t = go (last_of p n) refl
 
 pub data Source (E : Recording) (e s : ℕ) : Type 0 where
   before : s < e → task_of E s ≡ task_of E e → Source E e s
-  forked : s < size E → isFork (task_of E e) (event E s) ≡ true → Source E e s
-  join-fork : eqb (kind_of E e) join ≡ true → s < size E → isFork (objectOf E e) (event E s) ≡ true → Source E e s
-  join-end : eqb (kind_of E e) join ≡ true → s < size E → task_of E s ≡ objectOf E e → Source E e s
+  forked : s < size E → is_fork (task_of E e) (event E s) ≡ true → Source E e s
+  join_fork : eqb (kind_of E e) join ≡ true → s < size E → is_fork (object_of E e) (event E s) ≡ true → Source E e s
+  join_end : eqb (kind_of E e) join ≡ true → s < size E → task_of E s ≡ object_of E e → Source E e s
 
-pub of-found : {s : ℕ} (m : Found) → Memᴰ s (found m) → m ≡ Found.At s
-of-found Found.Nothing h = absurd (Memᴰ.not-nil h)
-of-found (Found.At x) h = ap (λ (y : ℕ). Found.At y) (sym (Memᴰ.eq_of_singleton h))
+pub of_found : {s : ℕ} (m : Found) → Memᴰ s (found m) → m ≡ Found.At s
+of_found Found.Nothing h = absurd (Memᴰ.not-nil h)
+of_found (Found.At x) h = ap (λ (y : ℕ). Found.At y) (sym (Memᴰ.eq_of_singleton h))
 
-pub in-found : {s : ℕ} {m : Found} → m ≡ Found.At s → Memᴰ s (found m)
-in-found {s} {m} q = subst (λ (m : Found). Memᴰ s (found m)) (sym q) (Memᴰ.head refl)
+pub in_found : {s : ℕ} {m : Found} → m ≡ Found.At s → Memᴰ s (found m)
+in_found {s} {m} q = subst (λ (m : Found). Memᴰ s (found m)) (sym q) (Memᴰ.head refl)
 
 pub source_of : (E : Recording) (e s : ℕ) → Memᴰ s (sources E.events e) → Source E e s
 unfolding sources
-source_of E e s h = either (Memᴰ.append_cases (found (beforeOrFork E.events e)) h)
+source_of E e s h = either (Memᴰ.append_cases (found (before_or_fork E.events e)) h)
   where
-    own : (m : Found) → previous E.events e ≡ m → Memᴰ s (found (firstFound m (forkOf E.events (task_of E e)))) → Source E e s
-    own Found.Nothing q k = let r = last_some (λ a. isFork (task_of E e) (event E a)) (size E) s (of-found (forkOf E.events (task_of E e)) k) in forked r.inside r.passes
+    own : (m : Found) → previous E.events e ≡ m → Memᴰ s (found (first_found m (fork_of E.events (task_of E e)))) → Source E e s
+    own Found.Nothing q k = let r = last_some (λ a. is_fork (task_of E e) (event E a)) (size E) s (of_found (fork_of E.events (task_of E e)) k) in forked r.inside r.passes
     own (Found.At x) q k =
-        let r = last_some (λ a. ofTask (task_of E e) (event E a)) e s (q ∙ of-found (Found.At x) k) in
+        let r = last_some (λ a. of_task (task_of E e) (event E a)) e s (q ∙ of_found (Found.At x) k) in
         before r.inside (eqb-true (task_of E s) (task_of E e) r.passes)
 
-    joined : (b : Bool) → eqb (kind_of E e) join ≡ b → Memᴰ s (joinSources E.events e b) → Source E e s
+    joined : (b : Bool) → eqb (kind_of E e) join ≡ b → Memᴰ s (join_sources E.events e b) → Source E e s
     joined false q k = absurd (Memᴰ.not-nil k)
-    joined true q k = which (Memᴰ.append_cases (found (forkOf E.events (objectOf E e))) k)
+    joined true q k = which (Memᴰ.append_cases (found (fork_of E.events (object_of E e))) k)
       where
-        which : Memᴰ s (found (forkOf E.events (objectOf E e))) ⊎ Memᴰ s (found (lastEvent E.events (objectOf E e))) → Source E e s
-        which (inl k) = let r = last_some (λ a. isFork (objectOf E e) (event E a)) (size E) s (of-found (forkOf E.events (objectOf E e)) k) in join-fork q r.inside r.passes
+        which : Memᴰ s (found (fork_of E.events (object_of E e))) ⊎ Memᴰ s (found (last_event E.events (object_of E e))) → Source E e s
+        which (inl k) = let r = last_some (λ a. is_fork (object_of E e) (event E a)) (size E) s (of_found (fork_of E.events (object_of E e)) k) in join_fork q r.inside r.passes
         which (inr k) =
-            let r = last_some (λ a. ofTask (objectOf E e) (event E a)) (size E) s (of-found (lastEvent E.events (objectOf E e)) k) in
-            join-end q r.inside (eqb-true (task_of E s) (objectOf E e) r.passes)
+            let r = last_some (λ a. of_task (object_of E e) (event E a)) (size E) s (of_found (last_event E.events (object_of E e)) k) in
+            join_end q r.inside (eqb-true (task_of E s) (object_of E e) r.passes)
 
-    either : Memᴰ s (found (beforeOrFork E.events e)) ⊎ Memᴰ s (joinSources E.events e (eqb (kind_of E e) join)) → Source E e s
+    either : Memᴰ s (found (before_or_fork E.events e)) ⊎ Memᴰ s (join_sources E.events e (eqb (kind_of E e) join)) → Source E e s
     either (inl k) = own (previous E.events e) refl k
     either (inr k) = joined (eqb (kind_of E e) join) refl k
 
 -- a source precedes its event in every admissible order
-pub source-precedes : (E : Recording) (o : List ℕ) → Admissible E o → (e s : ℕ) → e < size E → Source E e s → (s < size E) × Precedes o s e
-source-precedes E o adm e s l (before k t) = (omega arith, adm.own s e k l t)
-source-precedes E o adm e s l (forked k t) = (k, fork-first E o adm s e k l t)
-source-precedes E o adm e s l (join-fork j k t) =
-    let (f, m, q, p) = join-forked E o adm e l j in
-    (k, subst (λ (x : ℕ). Precedes o x e) (one-fork E o adm (objectOf E e) f s m k q t) p)
-source-precedes E o adm e s l (join-end j k t) = (k, join_last E o adm e s l k (both j (eq-eqb _ _ (sym t))))
+pub source_precedes : (E : Recording) (o : List ℕ) → Admissible E o → (e s : ℕ) → e < size E → Source E e s → (s < size E) × Precedes o s e
+source_precedes E o adm e s l (before k t) = (omega arith, adm.own s e k l t)
+source_precedes E o adm e s l (forked k t) = (k, fork_first E o adm s e k l t)
+source_precedes E o adm e s l (join_fork j k t) =
+    let (f, m, q, p) = join_forked E o adm e l j in
+    (k, subst (λ (x : ℕ). Precedes o x e) (one_fork E o adm (object_of E e) f s m k q t) p)
+source_precedes E o adm e s l (join_end j k t) = (k, join_last E o adm e s l k (both j (eq-eqb _ _ (sym t))))
 
 -- ---- what the sources hold
 
-pub has-previous : (E : Recording) (e s : ℕ) → previous E.events e ≡ Found.At s → Memᴰ s (sources E.events e)
+pub has_previous : (E : Recording) (e s : ℕ) → previous E.events e ≡ Found.At s → Memᴰ s (sources E.events e)
 unfolding sources
-has-previous E e s q = Memᴰ.append_left _ (subst (λ (m : Found). Memᴰ s (found (firstFound m (forkOf E.events (task_of E e))))) (sym q) (Memᴰ.head refl))
+has_previous E e s q = Memᴰ.append_left _ (subst (λ (m : Found). Memᴰ s (found (first_found m (fork_of E.events (task_of E e))))) (sym q) (Memᴰ.head refl))
 
-pub has-fork : (E : Recording) (e s : ℕ) → previous E.events e ≡ Found.Nothing → forkOf E.events (task_of E e) ≡ Found.At s → Memᴰ s (sources E.events e)
+pub has_fork : (E : Recording) (e s : ℕ) → previous E.events e ≡ Found.Nothing → fork_of E.events (task_of E e) ≡ Found.At s → Memᴰ s (sources E.events e)
 unfolding sources
-has-fork E e s q r = Memᴰ.append_left _ (subst (λ (m : Found). Memᴰ s (found (firstFound m (forkOf E.events (task_of E e))))) (sym q) (in-found r))
+has_fork E e s q r = Memᴰ.append_left _ (subst (λ (m : Found). Memᴰ s (found (first_found m (fork_of E.events (task_of E e))))) (sym q) (in_found r))
 
-has_end : (E : Recording) (e s : ℕ) → eqb (kind_of E e) join ≡ true → Memᴰ s (found (forkOf E.events (objectOf E e)) ++ found (lastEvent E.events (objectOf E e))) → Memᴰ s (sources E.events e)
+has_end : (E : Recording) (e s : ℕ) → eqb (kind_of E e) join ≡ true → Memᴰ s (found (fork_of E.events (object_of E e)) ++ found (last_event E.events (object_of E e))) → Memᴰ s (sources E.events e)
 unfolding sources
-has_end E e s q h = Memᴰ.append_right (found (beforeOrFork E.events e)) (subst (λ (b : Bool). Memᴰ s (joinSources E.events e b)) (sym q) h)
+has_end E e s q h = Memᴰ.append_right (found (before_or_fork E.events e)) (subst (λ (b : Bool). Memᴰ s (join_sources E.events e b)) (sym q) h)
 
-pub has-join-fork : (E : Recording) (e s : ℕ) → eqb (kind_of E e) join ≡ true → forkOf E.events (objectOf E e) ≡ Found.At s → Memᴰ s (sources E.events e)
-has-join-fork E e s q r = has_end E e s q (Memᴰ.append_left (found (lastEvent E.events (objectOf E e))) (in-found r))
+pub has_join_fork : (E : Recording) (e s : ℕ) → eqb (kind_of E e) join ≡ true → fork_of E.events (object_of E e) ≡ Found.At s → Memᴰ s (sources E.events e)
+has_join_fork E e s q r = has_end E e s q (Memᴰ.append_left (found (last_event E.events (object_of E e))) (in_found r))
 
-pub has-join-end : (E : Recording) (e s : ℕ) → eqb (kind_of E e) join ≡ true → lastEvent E.events (objectOf E e) ≡ Found.At s → Memᴰ s (sources E.events e)
-has-join-end E e s q r = has_end E e s q (Memᴰ.append_right (found (forkOf E.events (objectOf E e))) (in-found r))
+pub has_join_end : (E : Recording) (e s : ℕ) → eqb (kind_of E e) join ≡ true → last_event E.events (object_of E e) ≡ Found.At s → Memᴰ s (sources E.events e)
+has_join_end E e s q r = has_end E e s q (Memᴰ.append_right (found (fork_of E.events (object_of E e))) (in_found r))
 
 -- the fork of a task is the one that is found
-pub fork-found : (E : Recording) (o : List ℕ) → Admissible E o → (t f : ℕ) → f < size E → isFork t (event E f) ≡ true → forkOf E.events t ≡ Found.At f
-fork-found E o adm t f l h =
-    let (x, q, r, k) = last_found (λ a. isFork t (event E a)) (size E) f l h in
-    q ∙ ap (λ (x : ℕ). Found.At x) (one-fork E o adm t x f r.inside l r.passes h)
+pub fork_found : (E : Recording) (o : List ℕ) → Admissible E o → (t f : ℕ) → f < size E → is_fork t (event E f) ≡ true → fork_of E.events t ≡ Found.At f
+fork_found E o adm t f l h =
+    let (x, q, r, k) = last_found (λ a. is_fork t (event E a)) (size E) f l h in
+    q ∙ ap (λ (x : ℕ). Found.At x) (one_fork E o adm t x f r.inside l r.passes h)

@@ -15,5 +15,5 @@ sets-append (u ∷ us) ws v i =
     rw k (sets-append us ws (set v i u) (suc i))
 
 -- stores from the front
-pub sets-front : (v us : List ℕ) (n : ℕ) → length us ≡ n → n ≤ length v → sets v 0 us ≡ us ++ drop n v
-sets-front v us n e h = sets-eq us v 0 (omega arith) ∙ rw (e, zero-add n)
+pub sets_front : (v us : List ℕ) (n : ℕ) → length us ≡ n → n ≤ length v → sets v 0 us ≡ us ++ drop n v
+sets_front v us n e h = sets-eq us v 0 (omega arith) ∙ rw (e, zero-add n)

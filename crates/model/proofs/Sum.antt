@@ -7,29 +7,29 @@ use native.Mathlib.Nat.{le_refl, le_of_eq, add-le-add, not-suc-le-zero, suc-mul}
 use native.Mathlib.Omega.{arith}
 use lib.Dec.{ltb, eqb}
 use Rattle.model.specs.Numbers.{bit, sum, tally}
-use Rattle.model.proofs.Tests.{cases, to-not, both, first, and-true, and-fails, bit-false, bit_le, tests, bits, compared, last-or-lower, eqb-true, eq-eqb, ne_eqb, lt-ltb, le-ltb, bit-true, ltb-true, ltb-false}
+use Rattle.model.proofs.Tests.{cases, to_not, both, first, and_true, and_fails, bit_false, bit_le, tests, bits, compared, last_or_lower, eqb-true, eq-eqb, ne_eqb, lt-ltb, le-ltb, bit_true, ltb-true, ltb-false}
 
 -- ---- sums
 
-pub sum-le : (f g : ℕ → ℕ) (n : ℕ) → ((e : ℕ) → e < n → f e ≤ g e) → sum f n ≤ sum g n
+pub sum_le : (f g : ℕ → ℕ) (n : ℕ) → ((e : ℕ) → e < n → f e ≤ g e) → sum f n ≤ sum g n
 unfolding sum
-sum-le f g zero h = zero-le
-sum-le f g (suc n) h = add-le-add (sum-le f g n (λ e l. h e (omega arith))) (h n (le_refl (suc n)))
+sum_le f g zero h = zero-le
+sum_le f g (suc n) h = add-le-add (sum_le f g n (λ e l. h e (omega arith))) (h n (le_refl (suc n)))
 
-pub sum-ext : (f g : ℕ → ℕ) (n : ℕ) → ((e : ℕ) → e < n → f e ≡ g e) → sum f n ≡ sum g n
+pub sum_ext : (f g : ℕ → ℕ) (n : ℕ) → ((e : ℕ) → e < n → f e ≡ g e) → sum f n ≡ sum g n
 unfolding sum
-sum-ext f g zero h = refl
-sum-ext f g (suc n) h = ap₂ (λ (x y : ℕ). x + y) (sum-ext f g n (λ e l. h e (omega arith))) (h n (le_refl (suc n)))
+sum_ext f g zero h = refl
+sum_ext f g (suc n) h = ap₂ (λ (x y : ℕ). x + y) (sum_ext f g n (λ e l. h e (omega arith))) (h n (le_refl (suc n)))
 
-pub sum-add : (f g : ℕ → ℕ) (n : ℕ) → sum (λ e. f e + g e) n ≡ sum f n + sum g n
+pub sum_add : (f g : ℕ → ℕ) (n : ℕ) → sum (λ e. f e + g e) n ≡ sum f n + sum g n
 unfolding sum
-sum-add f g zero = refl
-sum-add f g (suc n) = let ih = sum-add f g n in omega arith
+sum_add f g zero = refl
+sum_add f g (suc n) = let ih = sum_add f g n in omega arith
 
-pub sum-nothing : (f : ℕ → ℕ) (n : ℕ) → ((e : ℕ) → e < n → f e ≡ 0) → sum f n ≡ 0
+pub sum_nothing : (f : ℕ → ℕ) (n : ℕ) → ((e : ℕ) → e < n → f e ≡ 0) → sum f n ≡ 0
 unfolding sum
-sum-nothing f zero h = refl
-sum-nothing f (suc n) h = let a = sum-nothing f n (λ e l. h e (omega arith)) in let b = h n (le_refl (suc n)) in omega arith
+sum_nothing f zero h = refl
+sum_nothing f (suc n) h = let a = sum_nothing f n (λ e l. h e (omega arith)) in let b = h n (le_refl (suc n)) in omega arith
 
 pub sum_grow : (f : ℕ → ℕ) (m n : ℕ) → m ≤ n → sum f m ≤ sum f n
 unfolding sum
@@ -39,16 +39,16 @@ sum_grow f m (suc n) h =
     (λ t. let k = sum_grow f m n (omega tests) in omega arith)
 
 -- one term alone
-pub sum-single : (f : ℕ → ℕ) (x n : ℕ) → x < n → sum (λ e. cond (eqb e x) (f e) 0) n ≡ f x
+pub sum_single : (f : ℕ → ℕ) (x n : ℕ) → x < n → sum (λ e. cond (eqb e x) (f e) 0) n ≡ f x
 unfolding sum
-sum-single f x zero h = absurd (not-suc-le-zero h)
-sum-single f x (suc n) h =
-    last-or-lower h
+sum_single f x zero h = absurd (not-suc-le-zero h)
+sum_single f x (suc n) h =
+    last_or_lower h
     (λ e.
-    let z = sum-nothing (λ e. cond (eqb e x) (f e) 0) n (λ d l. apart d (λ q. omega arith)) in
+    let z = sum_nothing (λ e. cond (eqb e x) (f e) 0) n (λ d l. apart d (λ q. omega arith)) in
     let y : cond (eqb n x) (f n) 0 ≡ f n = rw (eq-eqb n x (sym e)) in
     let w = ap f e in omega arith)
-    (λ l. let y = sum-single f x n l in let z = apart n (λ q. omega arith) in omega arith)
+    (λ l. let y = sum_single f x n l in let z = apart n (λ q. omega arith) in omega arith)
   where
     apart : (e : ℕ) → ¬ (e ≡ x) → cond (eqb e x) (f e) 0 ≡ 0
     apart e d = rw (ne_eqb e x d)
@@ -62,58 +62,58 @@ sum_bound f c (suc n) h =
     let m = suc-mul n c in omega arith
 
 -- terms that are at most others with no larger sum are equal to them
-pub sum-equal : (f g : ℕ → ℕ) (n : ℕ) → ((e : ℕ) → e < n → f e ≤ g e) → sum g n ≤ sum f n → (e : ℕ) → e < n → f e ≡ g e
+pub sum_equal : (f g : ℕ → ℕ) (n : ℕ) → ((e : ℕ) → e < n → f e ≤ g e) → sum g n ≤ sum f n → (e : ℕ) → e < n → f e ≡ g e
 unfolding sum
-sum-equal f g zero h q e l = absurd (not-suc-le-zero l)
-sum-equal f g (suc n) h q e l =
-    let a = sum-le f g n (λ e l. h e (omega arith)) in
+sum_equal f g zero h q e l = absurd (not-suc-le-zero l)
+sum_equal f g (suc n) h q e l =
+    let a = sum_le f g n (λ e l. h e (omega arith)) in
     let b = h n (le_refl (suc n)) in
-    last-or-lower l (λ d. subst (λ (x : ℕ). f x ≡ g x) (sym d) (omega arith))
-    (λ k. sum-equal f g n (λ e l. h e (omega arith)) (omega arith) e k)
+    last_or_lower l (λ d. subst (λ (x : ℕ). f x ≡ g x) (sym d) (omega arith))
+    (λ k. sum_equal f g n (λ e l. h e (omega arith)) (omega arith) e k)
 
 -- ---- tallies
 
-pub tally-le : (p q : ℕ → Bool) (n : ℕ) → ((e : ℕ) → e < n → p e ≡ true → q e ≡ true) → tally p n ≤ tally q n
-tally-le p q n h = sum-le (λ e. bit (p e)) (λ e. bit (q e)) n (λ e l. bit_le (p e) (q e) (h e l))
+pub tally_le : (p q : ℕ → Bool) (n : ℕ) → ((e : ℕ) → e < n → p e ≡ true → q e ≡ true) → tally p n ≤ tally q n
+tally_le p q n h = sum_le (λ e. bit (p e)) (λ e. bit (q e)) n (λ e l. bit_le (p e) (q e) (h e l))
 
-pub tally-ext : (p q : ℕ → Bool) (n : ℕ) → ((e : ℕ) → e < n → p e ≡ q e) → tally p n ≡ tally q n
-tally-ext p q n h = sum-ext (λ e. bit (p e)) (λ e. bit (q e)) n (λ e l. ap bit (h e l))
+pub tally_ext : (p q : ℕ → Bool) (n : ℕ) → ((e : ℕ) → e < n → p e ≡ q e) → tally p n ≡ tally q n
+tally_ext p q n h = sum_ext (λ e. bit (p e)) (λ e. bit (q e)) n (λ e l. ap bit (h e l))
 
-pub tally-grow : (p : ℕ → Bool) (m n : ℕ) → m ≤ n → tally p m ≤ tally p n
-tally-grow p m n h = sum_grow (λ e. bit (p e)) m n h
+pub tally_grow : (p : ℕ → Bool) (m n : ℕ) → m ≤ n → tally p m ≤ tally p n
+tally_grow p m n h = sum_grow (λ e. bit (p e)) m n h
 
-pub tally-zero : (p : ℕ → Bool) (n : ℕ) → ((e : ℕ) → e < n → p e ≡ false) → tally p n ≡ 0
-tally-zero p n h = sum-nothing (λ e. bit (p e)) n (λ e l. bit-false (h e l))
+pub tally_zero : (p : ℕ → Bool) (n : ℕ) → ((e : ℕ) → e < n → p e ≡ false) → tally p n ≡ 0
+tally_zero p n h = sum_nothing (λ e. bit (p e)) n (λ e l. bit_false (h e l))
 
 -- a tally that is larger has a number of its own
-pub tally-more : (p q : ℕ → Bool) (n : ℕ) → tally q n < tally p n → (c : ℕ) × (c < n) × (p c ≡ true) × (q c ≡ false)
+pub tally_more : (p q : ℕ → Bool) (n : ℕ) → tally q n < tally p n → (c : ℕ) × (c < n) × (p c ≡ true) × (q c ≡ false)
 unfolding sum
-tally-more p q zero h = absurd (not-suc-le-zero h)
-tally-more p q (suc n) h =
-    cases (p n) (λ a. cases (q n) (λ b. up (tally-more p q n (omega bits))) (λ b. (n, le_refl (suc n), a, b)))
-    (λ a. cases (q n) (λ b. up (tally-more p q n (omega bits))) (λ b. up (tally-more p q n (omega bits))))
+tally_more p q zero h = absurd (not-suc-le-zero h)
+tally_more p q (suc n) h =
+    cases (p n) (λ a. cases (q n) (λ b. up (tally_more p q n (omega bits))) (λ b. (n, le_refl (suc n), a, b)))
+    (λ a. cases (q n) (λ b. up (tally_more p q n (omega bits))) (λ b. up (tally_more p q n (omega bits))))
   where
     up : (c : ℕ) × (c < n) × (p c ≡ true) × (q c ≡ false) → (c : ℕ) × (c < suc n) × (p c ≡ true) × (q c ≡ false)
     up (c, l, a, b) = (c, omega arith, a, b)
 
-pub tally-hit : (p : ℕ → Bool) (n : ℕ) → 0 < tally p n → (c : ℕ) × (c < n) × (p c ≡ true)
-tally-hit p n h =
-    let z = sum-nothing (λ e. 0) n (λ e l. refl) in
-    let (c, l, a, b) = tally-more p (λ e. false) n (omega arith) in (c, l, a)
+pub tally_hit : (p : ℕ → Bool) (n : ℕ) → 0 < tally p n → (c : ℕ) × (c < n) × (p c ≡ true)
+tally_hit p n h =
+    let z = sum_nothing (λ e. 0) n (λ e l. refl) in
+    let (c, l, a, b) = tally_more p (λ e. false) n (omega arith) in (c, l, a)
 
-pub tally-has : (p : ℕ → Bool) (n c : ℕ) → c < n → p c ≡ true → 0 < tally p n
+pub tally_has : (p : ℕ → Bool) (n c : ℕ) → c < n → p c ≡ true → 0 < tally p n
 unfolding sum
-tally-has p n c l a = let g = tally-grow p (suc c) n l in omega bits
+tally_has p n c l a = let g = tally_grow p (suc c) n l in omega bits
 
-pub tally-none : {X : Type 0} (p : ℕ → Bool) (n c : ℕ) → tally p n ≡ 0 → c < n → p c ≡ true → X
-tally-none p n c z l a = absurd (let h = tally-has p n c l a in omega arith)
+pub tally_none : {X : Type 0} (p : ℕ → Bool) (n c : ℕ) → tally p n ≡ 0 → c < n → p c ≡ true → X
+tally_none p n c z l a = absurd (let h = tally_has p n c l a in omega arith)
 
 -- a test passed on every number that passes another, and on one more
-pub tally-lt : (p q : ℕ → Bool) (n x : ℕ) → ((e : ℕ) → e < n → p e ≡ true → q e ≡ true) → x < n → p x ≡ false → q x ≡ true → tally p n < tally q n
-tally-lt p q n x h l a b =
-    let one = sum-single (λ e. 1) x n l in
-    let s = sum-add (λ e. bit (p e)) (λ e. cond (eqb e x) 1 0) n in
-    let le = sum-le (λ e. bit (p e) + cond (eqb e x) 1 0) (λ e. bit (q e)) n term in
+pub tally_lt : (p q : ℕ → Bool) (n x : ℕ) → ((e : ℕ) → e < n → p e ≡ true → q e ≡ true) → x < n → p x ≡ false → q x ≡ true → tally p n < tally q n
+tally_lt p q n x h l a b =
+    let one = sum_single (λ e. 1) x n l in
+    let s = sum_add (λ e. bit (p e)) (λ e. cond (eqb e x) 1 0) n in
+    let le = sum_le (λ e. bit (p e) + cond (eqb e x) 1 0) (λ e. bit (q e)) n term in
     omega arith
   where
     term : (e : ℕ) → e < n → bit (p e) + cond (eqb e x) 1 0 ≤ bit (q e)
@@ -123,23 +123,23 @@ tally-lt p q n x h l a b =
         (λ t. rw t (let k = bit_le (p e) (q e) (h e m) in omega arith))
 
 -- only the numbers below m count
-pub tally-cut : (q : ℕ → Bool) (m n : ℕ) → m ≤ n → tally (λ a. q a && ltb a m) n ≡ tally q m
+pub tally_cut : (q : ℕ → Bool) (m n : ℕ) → m ≤ n → tally (λ a. q a && ltb a m) n ≡ tally q m
 unfolding sum
-tally-cut q m zero h = ap (tally q) (let z : 0 ≡ m = omega arith in z)
-tally-cut q m (suc n) h =
+tally_cut q m zero h = ap (tally q) (let z : 0 ≡ m = omega arith in z)
+tally_cut q m (suc n) h =
     cases (eqb m (suc n))
     (λ t.
     let e = eqb-true m (suc n) t in
-    tally-ext (λ a. q a && ltb a m) q (suc n) (λ a l. rw (lt-ltb a m (omega arith)) (and-true (q a))) ∙ ap (tally q) (sym e))
+    tally_ext (λ a. q a && ltb a m) q (suc n) (λ a l. rw (lt-ltb a m (omega arith)) (and_true (q a))) ∙ ap (tally q) (sym e))
     (λ t.
-    let k = tally-cut q m n (omega tests) in
-    let z = bit-false (and-fails (q n) (le-ltb n m (omega tests))) in omega arith)
+    let k = tally_cut q m n (omega tests) in
+    let z = bit_false (and_fails (q n) (le-ltb n m (omega tests))) in omega arith)
 
 -- those that pass a second test, and those that do not
-pub tally-split : (p q : ℕ → Bool) (n : ℕ) → tally p n ≡ tally (λ e. p e && q e) n + tally (λ e. p e && not (q e)) n
-tally-split p q n =
-    sum-ext (λ e. bit (p e)) (λ e. bit (p e && q e) + bit (p e && not (q e))) n (λ e l. term (p e) (q e))
-    ∙ sum-add (λ e. bit (p e && q e)) (λ e. bit (p e && not (q e))) n
+pub tally_split : (p q : ℕ → Bool) (n : ℕ) → tally p n ≡ tally (λ e. p e && q e) n + tally (λ e. p e && not (q e)) n
+tally_split p q n =
+    sum_ext (λ e. bit (p e)) (λ e. bit (p e && q e) + bit (p e && not (q e))) n (λ e l. term (p e) (q e))
+    ∙ sum_add (λ e. bit (p e && q e)) (λ e. bit (p e && not (q e))) n
   where
     term : (a b : Bool) → bit a ≡ bit (a && b) + bit (a && not b)
     term true true = refl
@@ -149,15 +149,15 @@ tally-split p q n =
 -- ---- ranks
 
 -- those of rank below k are k, or all where they are fewer
-pub tally-first : (p : ℕ → Bool) (k n : ℕ) → tally (λ a. p a && ltb (tally p a) k) n ≡ min k (tally p n)
+pub tally_first : (p : ℕ → Bool) (k n : ℕ) → tally (λ a. p a && ltb (tally p a) k) n ≡ min k (tally p n)
 unfolding sum
-tally-first p k zero = omega arith
-tally-first p k (suc n) =
-    let h = tally-first p k n in
+tally_first p k zero = omega arith
+tally_first p k (suc n) =
+    let h = tally_first p k n in
     cases (p n)
     (λ t.
-    cases (ltb (tally p n) k) (λ u. let b = bit-true (both t u) in let c = ltb-true (tally p n) k u in omega bits)
-    (λ u. let b = bit-false (and-fails (p n) u) in let c = ltb-false (tally p n) k u in omega bits))
+    cases (ltb (tally p n) k) (λ u. let b = bit_true (both t u) in let c = ltb-true (tally p n) k u in omega bits)
+    (λ u. let b = bit_false (and_fails (p n) u) in let c = ltb-false (tally p n) k u in omega bits))
     (λ t. let b : bit (p n && ltb (tally p n) k) ≡ 0 = rw t in omega bits)
 
 -- the number of rank k among those that pass
@@ -172,25 +172,25 @@ ranked p (suc n) k h =
 
 pub rank_rises : (p : ℕ → Bool) (a b : ℕ) → a < b → p a ≡ true → tally p a < tally p b
 unfolding sum
-rank_rises p a b l t = let g = tally-grow p (suc a) b l in omega bits
+rank_rises p a b l t = let g = tally_grow p (suc a) b l in omega bits
 
 pub rank_same : (p : ℕ → Bool) (a b : ℕ) → p a ≡ true → p b ≡ true → tally p a ≡ tally p b → a ≡ b
 rank_same p a b s t e =
     compared a b (λ l. let h = rank_rises p a b l s in omega arith) (λ q. q) (λ l. let h = rank_rises p b a l t in omega arith)
 
 -- numbers that are each given one of their own are no more than those given
-pub tally-inject : (M : ℕ → ℕ → Type 0) → ((a b s : ℕ) → M a s → M b s → a ≡ b) → (p q : ℕ → Bool) (m n : ℕ)
+pub tally_inject : (M : ℕ → ℕ → Type 0) → ((a b s : ℕ) → M a s → M b s → a ≡ b) → (p q : ℕ → Bool) (m n : ℕ)
     → ((a : ℕ) → a < m → p a ≡ true → (s : ℕ) × (s < n) × (q s ≡ true) × M a s) → tally p m ≤ tally q n
 unfolding sum
-tally-inject M inj p q zero n give = zero-le
-tally-inject M inj p q (suc m) n give =
+tally_inject M inj p q zero n give = zero-le
+tally_inject M inj p q (suc m) n give =
     cases (p m)
     (λ t.
     let (s, l, u, v) = give m (le_refl (suc m)) t in
-    let h = tally-inject M inj p (λ c. q c && not (eqb c s)) m n (λ a k w.
+    let h = tally_inject M inj p (λ c. q c && not (eqb c s)) m n (λ a k w.
     let (r, i, j, y) = give a (omega arith) w in
-    (r, i, both j (to-not (ne_eqb r s (λ e. let z = inj a m s (subst (λ (d : ℕ). M a d) e y) v in omega arith))), y)) in
-    let less = tally-lt (λ c. q c && not (eqb c s)) q n s (λ c k w. first (q c) _ w) l
-    (and-fails (q s) (ap not (eq-eqb s s refl))) u in
+    (r, i, both j (to_not (ne_eqb r s (λ e. let z = inj a m s (subst (λ (d : ℕ). M a d) e y) v in omega arith))), y)) in
+    let less = tally_lt (λ c. q c && not (eqb c s)) q n s (λ c k w. first (q c) _ w) l
+    (and_fails (q s) (ap not (eq-eqb s s refl))) u in
     omega bits)
-    (λ t. let h = tally-inject M inj p q m n (λ a l k. give a (omega arith) k) in omega bits)
+    (λ t. let h = tally_inject M inj p q m n (λ a l k. give a (omega arith) k) in omega bits)

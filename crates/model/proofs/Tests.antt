@@ -28,8 +28,8 @@ fails false h = refl
 
 -- ---- joined tests
 
-pub to-not : {b : Bool} → b ≡ false → not b ≡ true
-to-not p = ap not p
+pub to_not : {b : Bool} → b ≡ false → not b ≡ true
+to_not p = ap not p
 
 pub both : {a b : Bool} → a ≡ true → b ≡ true → (a && b) ≡ true
 both {a} {b} p q = rw (p, q)
@@ -49,17 +49,17 @@ pub either : (a b : Bool) → (a || b) ≡ true → (a ≡ true) ⊎ (b ≡ true
 either true b p = inl refl
 either false b p = inr p
 
-pub and-true : (a : Bool) → (a && true) ≡ a
-and-true true = refl
-and-true false = refl
+pub and_true : (a : Bool) → (a && true) ≡ a
+and_true true = refl
+and_true false = refl
 
-pub and-fails : (a : Bool) {b : Bool} → b ≡ false → (a && b) ≡ false
-and-fails true q = q
-and-fails false q = refl
+pub and_fails : (a : Bool) {b : Bool} → b ≡ false → (a && b) ≡ false
+and_fails true q = q
+and_fails false q = refl
 
 -- of two tests that do not both pass, where the first does
-pub and-false : (a b : Bool) → (a && b) ≡ false → a ≡ true → b ≡ false
-and-false a b p q = fails b (λ r. clash (both q r) p)
+pub and_false : (a b : Bool) → (a && b) ≡ false → a ≡ true → b ≡ false
+and_false a b p q = fails b (λ r. clash (both q r) p)
 
 -- two joined tests are alike where the first passes and the second are
 pub and_alike : (a : Bool) {b c : Bool} → (a ≡ true → b ≡ c) → (a && b) ≡ (a && c)
@@ -70,33 +70,33 @@ and_alike false h = refl
 pub implied : {a b : Bool} → implies a b ≡ true → a ≡ true → b ≡ true
 implied {a} {b} p q = rw q at p
 
-pub implies-by : (a b : Bool) → (a ≡ true → b ≡ true) → implies a b ≡ true
-implies-by true b h = h refl
-implies-by false b h = refl
+pub implies_by : (a b : Bool) → (a ≡ true → b ≡ true) → implies a b ≡ true
+implies_by true b h = h refl
+implies_by false b h = refl
 
-pub eqb-turned : (m n : ℕ) → eqb m n ≡ eqb n m
-eqb-turned m n =
+pub eqb_turned : (m n : ℕ) → eqb m n ≡ eqb n m
+eqb_turned m n =
     cases (eqb m n) (λ t. t ∙ sym (eq-eqb n m (sym (eqb-true m n t)))) (λ t. t ∙ sym (ne_eqb n m (λ q. eqb-false m n t (sym q))))
 
 -- ---- bits
 
-pub bit-true : {b : Bool} → b ≡ true → bit b ≡ 1
-bit-true p = ap bit p
+pub bit_true : {b : Bool} → b ≡ true → bit b ≡ 1
+bit_true p = ap bit p
 
-pub bit-false : {b : Bool} → b ≡ false → bit b ≡ 0
-bit-false p = ap bit p
+pub bit_false : {b : Bool} → b ≡ false → bit b ≡ 0
+bit_false p = ap bit p
 
 pub bit_le : (a b : Bool) → (a ≡ true → b ≡ true) → bit a ≤ bit b
 bit_le false b h = zero-le
 bit_le true b h = rw (h refl) (le_refl 1)
 
-pub bit-pos : (b : Bool) → 0 < bit b → b ≡ true
-bit-pos true h = refl
-bit-pos false h = absurd (omega arith)
+pub bit_pos : (b : Bool) → 0 < bit b → b ≡ true
+bit_pos true h = refl
+bit_pos false h = absurd (omega arith)
 
 pub ruleset tests = (arith, leb-true, leb-false, ltb-true, ltb-false, eqb-true, eqb-false, lt-ltb, le-ltb, le-leb, lt-leb, eq-eqb, ne_eqb)
 
-pub ruleset bits = (arith, bit-true, bit-false)
+pub ruleset bits = (arith, bit_true, bit_false)
 
 -- ---- cases on numbers
 
@@ -104,5 +104,5 @@ pub compared : {X : Type 0} (a b : ℕ) → (a < b → X) → (a ≡ b → X) �
 compared a b f g h = cases (ltb a b) (λ t. f (omega tests)) (λ t. cases (eqb a b) (λ s. g (omega tests)) (λ s. h (omega tests)))
 
 -- a number below suc n is n or below it
-pub last-or-lower : {X : Type 0} {m n : ℕ} → m < suc n → (m ≡ n → X) → (m < n → X) → X
-last-or-lower {X} {m} {n} h f g = cases (eqb m n) (λ t. f (omega tests)) (λ t. g (omega tests))
+pub last_or_lower : {X : Type 0} {m n : ℕ} → m < suc n → (m ≡ n → X) → (m < n → X) → X
+last_or_lower {X} {m} {n} h f g = cases (eqb m n) (λ t. f (omega tests)) (λ t. g (omega tests))

@@ -14,16 +14,16 @@ use lib.ListN.{length, get_or, drop, length-take, length-drop, get_or-eq_default
 use Rattle.model.specs.declared.Event.{Event}
 use Rattle.model.specs.declared.Check.{Check}
 use Rattle.model.specs.Numbers.{picked}
-use Rattle.model.specs.Recording.{Recording, size, tasks, event, eventIn, task_of, ofTask, semaphoresOf, flags_of, Accepted}
-use Rattle.model.specs.File.{trailerOf, startCount, levelCount, levelBytes, recordingOf}
-use Rattle.model.specs.Pairs.{ownEvents}
-use Rattle.model.specs.Together.{sameCounts, sameLevels, ownRecords, sameRecord, recordsAlike, tasksAlike, workAlike}
+use Rattle.model.specs.Recording.{Recording, size, tasks, event, event_in, task_of, of_task, semaphores_of, flags_of, Accepted}
+use Rattle.model.specs.File.{trailer_of, start_count, level_count, level_bytes, recording_of}
+use Rattle.model.specs.Pairs.{own_events}
+use Rattle.model.specs.Together.{same_counts, same_levels, own_records, same_record, records_alike, tasks_alike, work_alike}
 use Rattle.model.specs.OneJob.{SameWork}
-use Rattle.model.proofs.Tests.{cases, both, first, second, all_three, last-or-lower, ltb-true, ltb-false, eqb-true, eq-eqb, ne_eqb}
-use Rattle.model.proofs.Checks.{failed-passed, unless-passed, then-passed}
+use Rattle.model.proofs.Tests.{cases, both, first, second, all_three, last_or_lower, ltb-true, ltb-false, eqb-true, eq-eqb, ne_eqb}
+use Rattle.model.proofs.Checks.{failed_passed, unless_passed, then_passed}
 use Rattle.model.proofs.Each.{each_none}
-use Rattle.model.proofs.Picked.{picked-mem}
-use Rattle.model.proofs.Accept.{task-inside}
+use Rattle.model.proofs.Picked.{picked_mem}
+use Rattle.model.proofs.Accept.{task_inside}
 
 -- what is the same below n, and beyond it nothing in either
 everywhere : {A : Type 0} (f g : ℕ → A) (n : ℕ) {d : A}
@@ -33,110 +33,110 @@ everywhere f g n h p q i =
 
 -- ---- start counts and post counts
 
-levels-same : (x y : List ℕ) (n : ℕ) → sameLevels x y n ≡ true → (i : ℕ) → i < n → get_or x i 0 ≡ get_or y i 0
-unfolding sameLevels
-levels-same x y zero h i l = absurd (not-suc-le-zero l)
-levels-same x y (suc n) h i l =
-    last-or-lower l (λ e. subst (λ (j : ℕ). get_or x j 0 ≡ get_or y j 0) (sym e) (eqb-true _ _ (second (sameLevels x y n) _ h)))
-    (λ k. levels-same x y n (first (sameLevels x y n) _ h) i k)
+levels_same : (x y : List ℕ) (n : ℕ) → same_levels x y n ≡ true → (i : ℕ) → i < n → get_or x i 0 ≡ get_or y i 0
+unfolding same_levels
+levels_same x y zero h i l = absurd (not-suc-le-zero l)
+levels_same x y (suc n) h i l =
+    last_or_lower l (λ e. subst (λ (j : ℕ). get_or x j 0 ≡ get_or y j 0) (sym e) (eqb-true _ _ (second (same_levels x y n) _ h)))
+    (λ k. levels_same x y n (first (same_levels x y n) _ h) i k)
 
-levels-pass : (x y : List ℕ) → ((i : ℕ) → get_or x i 0 ≡ get_or y i 0) → (n : ℕ) → sameLevels x y n ≡ true
-unfolding sameLevels
-levels-pass x y h zero = refl
-levels-pass x y h (suc n) = both (levels-pass x y h n) (eq-eqb _ _ (h n))
+levels_pass : (x y : List ℕ) → ((i : ℕ) → get_or x i 0 ≡ get_or y i 0) → (n : ℕ) → same_levels x y n ≡ true
+unfolding same_levels
+levels_pass x y h zero = refl
+levels_pass x y h (suc n) = both (levels_pass x y h n) (eq-eqb _ _ (h n))
 
 -- a file gives no more start bytes than semaphores, and no more post bytes than flags
 module _ (f : List ℕ) where
-  few-starts : length (recordingOf f).levels.starts ≤ semaphoresOf (trailerOf f).counts
-  unfolding recordingOf startCount
-  few-starts =
-      let c = (trailerOf f).counts in
-      let n = length-take (startCount c) (levelBytes f (trailerOf f)) in
-      let k = few (eqb c.edition 1) (semaphoresOf c) in omega arith
+  few_starts : length (recording_of f).levels.starts ≤ semaphores_of (trailer_of f).counts
+  unfolding recording_of start_count
+  few_starts =
+      let c = (trailer_of f).counts in
+      let n = length-take (start_count c) (level_bytes f (trailer_of f)) in
+      let k = few (eqb c.edition 1) (semaphores_of c) in omega arith
     where
       few : (b : Bool) (n : ℕ) → cond b 0 n ≤ n
       few true n = zero-le
       few false n = le_refl n
 
-  few-posts : length (recordingOf f).levels.posts ≤ flags_of (trailerOf f).counts
-  unfolding recordingOf levelBytes levelCount
-  few-posts =
-      let r = trailerOf f in
+  few_posts : length (recording_of f).levels.posts ≤ flags_of (trailer_of f).counts
+  unfolding recording_of level_bytes level_count
+  few_posts =
+      let r = trailer_of f in
       let c = r.counts in
-      let n = length-drop (startCount c) (levelBytes f r) in
-      let k = length-take (levelCount c) (drop (r.start + 4 * r.records) f) in omega arith
+      let n = length-drop (start_count c) (level_bytes f r) in
+      let k = length-take (level_count c) (drop (r.start + 4 * r.records) f) in omega arith
 
 -- so where these are as many, they are the same everywhere
-all_same : (x y : List ℕ) (n m : ℕ) → n ≡ m → length x ≤ n → length y ≤ m → sameLevels x y n ≡ true → (i : ℕ) → get_or x i 0 ≡ get_or y i 0
+all_same : (x y : List ℕ) (n m : ℕ) → n ≡ m → length x ≤ n → length y ≤ m → same_levels x y n ≡ true → (i : ℕ) → get_or x i 0 ≡ get_or y i 0
 all_same x y n m q few other h =
-    everywhere (λ i. get_or x i 0) (λ i. get_or y i 0) n (levels-same x y n h) (λ i l. get_or-eq_default x 0 (omega arith))
+    everywhere (λ i. get_or x i 0) (λ i. get_or y i 0) n (levels_same x y n h) (λ i l. get_or-eq_default x 0 (omega arith))
     (λ i l. get_or-eq_default y 0 (omega arith))
 
 -- ---- records
 
 -- the records of a task are of it
-own-task : (l : List Event) (t : ℕ) (v : Event) → Memᴰ v (ownRecords l t) → v.task ≡ t
-own-task l t v h =
-    let (a, m, q) = Memᴰ.of_map (eventIn l) (ownEvents l t) h in
-    ap (λ (r : Event). r.task) (sym q) ∙ eqb-true (eventIn l a).task t (picked-mem (λ e. ofTask t (eventIn l e)) a (length l) m).1
+own_task : (l : List Event) (t : ℕ) (v : Event) → Memᴰ v (own_records l t) → v.task ≡ t
+own_task l t v h =
+    let (a, m, q) = Memᴰ.of_map (event_in l) (own_events l t) h in
+    ap (λ (r : Event). r.task) (sym q) ∙ eqb-true (event_in l a).task t (picked_mem (λ e. of_task t (event_in l e)) a (length l) m).1
 
 -- a task beyond the tasks has none
-no-records : (E : Recording) → Accepted E → (t : ℕ) → tasks E ≤ t → ownRecords E.events t ≡ []
+no_records : (E : Recording) → Accepted E → (t : ℕ) → tasks E ≤ t → own_records E.events t ≡ []
 unfolding picked
-no-records E acc t h =
+no_records E acc t h =
     ap (map (event E))
-    (each_none (λ e. cond (ofTask t (event E e)) (e ∷ []) []) (size E)
-    (λ e l. let k = task-inside E acc e l in rw (ne_eqb (task_of E e) t (λ q. omega arith))))
+    (each_none (λ e. cond (of_task t (event E e)) (e ∷ []) []) (size E)
+    (λ e l. let k = task_inside E acc e l in rw (ne_eqb (task_of E e) t (λ q. omega arith))))
 
 -- records of one task whose kinds and objects are the same
-records-same : (t p : ℕ) (l m : List Event) → ((v : Event) → Memᴰ v l → v.task ≡ t) → ((v : Event) → Memᴰ v m → v.task ≡ t)
-    → recordsAlike t p l m ≡ Check.Passed → l ≡ m
-unfolding recordsAlike
-records-same t p [] [] h k q = refl
-records-same t p [] (w ∷ m) h k q = failed-passed _ q
-records-same t p (v ∷ l) [] h k q = failed-passed _ q
-records-same t p (v ∷ l) (w ∷ m) h k q =
-    let (s, r) = unless-passed (sameRecord v w) _ _ q in
+records_same : (t p : ℕ) (l m : List Event) → ((v : Event) → Memᴰ v l → v.task ≡ t) → ((v : Event) → Memᴰ v m → v.task ≡ t)
+    → records_alike t p l m ≡ Check.Passed → l ≡ m
+unfolding records_alike
+records_same t p [] [] h k q = refl
+records_same t p [] (w ∷ m) h k q = failed_passed _ q
+records_same t p (v ∷ l) [] h k q = failed_passed _ q
+records_same t p (v ∷ l) (w ∷ m) h k q =
+    let (s, r) = unless_passed (same_record v w) _ _ q in
     ap₂ (λ (u : Event) (n : List Event). u ∷ n)
-    (one-event v w (h v (Memᴰ.head refl) ∙ sym (k w (Memᴰ.head refl))) (eqb-true _ _ (first (eqb v.kind w.kind) _ s))
+    (one_event v w (h v (Memᴰ.head refl) ∙ sym (k w (Memᴰ.head refl))) (eqb-true _ _ (first (eqb v.kind w.kind) _ s))
     (eqb-true _ _ (second (eqb v.kind w.kind) _ s)))
-    (records-same t (suc p) l m (λ u n. h u (Memᴰ.tail n)) (λ u n. k u (Memᴰ.tail n)) r)
+    (records_same t (suc p) l m (λ u n. h u (Memᴰ.tail n)) (λ u n. k u (Memᴰ.tail n)) r)
   where
-    one-event : (v w : Event) → v.task ≡ w.task → v.kind ≡ w.kind → v.object ≡ w.object → v ≡ w
-    one-event v w a b c = λ i. record { task = a i; kind = b i; object = c i }
+    one_event : (v w : Event) → v.task ≡ w.task → v.kind ≡ w.kind → v.object ≡ w.object → v ≡ w
+    one_event v w a b c = λ i. record { task = a i; kind = b i; object = c i }
 
-records-pass : (t p : ℕ) (l : List Event) → recordsAlike t p l l ≡ Check.Passed
-unfolding recordsAlike
-records-pass t p [] = refl
-records-pass t p (v ∷ l) = rw (eq-eqb v.kind v.kind refl, eq-eqb v.object v.object refl) (records-pass t (suc p) l)
+records_pass : (t p : ℕ) (l : List Event) → records_alike t p l l ≡ Check.Passed
+unfolding records_alike
+records_pass t p [] = refl
+records_pass t p (v ∷ l) = rw (eq-eqb v.kind v.kind refl, eq-eqb v.object v.object refl) (records_pass t (suc p) l)
 
 -- task by task
 module _ (l m : List Event) where
-  tasks-same : (n : ℕ) → tasksAlike l m n ≡ Check.Passed → (t : ℕ) → t < n → ownRecords l t ≡ ownRecords m t
-  unfolding tasksAlike
-  tasks-same zero q t h = absurd (not-suc-le-zero h)
-  tasks-same (suc n) q t h =
-      let (lower, last) = then-passed (tasksAlike l m n) _ q in
-      let here = records-same n _ (ownRecords l n) (ownRecords m n) (own-task l n) (own-task m n) last in
-      last-or-lower h (λ e. subst (λ (i : ℕ). ownRecords l i ≡ ownRecords m i) (sym e) here) (λ k. tasks-same n lower t k)
+  tasks_same : (n : ℕ) → tasks_alike l m n ≡ Check.Passed → (t : ℕ) → t < n → own_records l t ≡ own_records m t
+  unfolding tasks_alike
+  tasks_same zero q t h = absurd (not-suc-le-zero h)
+  tasks_same (suc n) q t h =
+      let (lower, last) = then_passed (tasks_alike l m n) _ q in
+      let here = records_same n _ (own_records l n) (own_records m n) (own_task l n) (own_task m n) last in
+      last_or_lower h (λ e. subst (λ (i : ℕ). own_records l i ≡ own_records m i) (sym e) here) (λ k. tasks_same n lower t k)
 
-  tasks-pass : ((t : ℕ) → ownRecords l t ≡ ownRecords m t) → (n : ℕ) → tasksAlike l m n ≡ Check.Passed
-  unfolding tasksAlike
-  tasks-pass h zero = refl
-  tasks-pass h (suc n) = rw (tasks-pass h n, h n) (records-pass n _ (ownRecords m n))
+  tasks_pass : ((t : ℕ) → own_records l t ≡ own_records m t) → (n : ℕ) → tasks_alike l m n ≡ Check.Passed
+  unfolding tasks_alike
+  tasks_pass h zero = refl
+  tasks_pass h (suc n) = rw (tasks_pass h n, h n) (records_pass n _ (own_records m n))
 
 -- ---- the whole
 
-same-work : (f g : List ℕ) → let E = recordingOf f in
-    let F = recordingOf g in Accepted E → Accepted F → workAlike E F ≡ Check.Passed → SameWork E F
-unfolding workAlike sameCounts recordingOf
-same-work f g accE accF q =
-    let E = recordingOf f in
-    let F = recordingOf g in
-    let (c, r) = unless-passed (sameCounts E.counts F.counts) _ _ q in
-    let (s, k) = unless-passed (sameLevels E.levels.starts F.levels.starts (semaphoresOf E.counts)) _ _ r in
-    let (p, m) = unless-passed (sameLevels E.levels.posts F.levels.posts (flags_of E.counts)) _ _ k in
-    let same = eqb E.counts.tasks F.counts.tasks && eqb (semaphoresOf E.counts) (semaphoresOf F.counts) && eqb (flags_of E.counts) (flags_of F.counts) in
+same_work : (f g : List ℕ) → let E = recording_of f in
+    let F = recording_of g in Accepted E → Accepted F → work_alike E F ≡ Check.Passed → SameWork E F
+unfolding work_alike same_counts recording_of
+same_work f g accE accF q =
+    let E = recording_of f in
+    let F = recording_of g in
+    let (c, r) = unless_passed (same_counts E.counts F.counts) _ _ q in
+    let (s, k) = unless_passed (same_levels E.levels.starts F.levels.starts (semaphores_of E.counts)) _ _ r in
+    let (p, m) = unless_passed (same_levels E.levels.posts F.levels.posts (flags_of E.counts)) _ _ k in
+    let same = eqb E.counts.tasks F.counts.tasks && eqb (semaphores_of E.counts) (semaphores_of F.counts) && eqb (flags_of E.counts) (flags_of F.counts) in
     let (t, n, b) = all_three _ _ _ (first same _ c) in
     let i = eqb-true _ _ t in
     let j = eqb-true _ _ n in
@@ -146,21 +146,21 @@ same-work f g accE accF q =
       semaphores = j;
       flags = o;
       cells = eqb-true _ _ (second same _ c);
-      starts = all_same E.levels.starts F.levels.starts (semaphoresOf E.counts) (semaphoresOf F.counts) j (few-starts f) (few-starts g) s;
-      posts = all_same E.levels.posts F.levels.posts (flags_of E.counts) (flags_of F.counts) o (few-posts f) (few-posts g) p;
+      starts = all_same E.levels.starts F.levels.starts (semaphores_of E.counts) (semaphores_of F.counts) j (few_starts f) (few_starts g) s;
+      posts = all_same E.levels.posts F.levels.posts (flags_of E.counts) (flags_of F.counts) o (few_posts f) (few_posts g) p;
       records =
-          everywhere (ownRecords E.events) (ownRecords F.events) (tasks E) (tasks-same E.events F.events (tasks E) m)
-          (no-records E accE) (λ t h. no-records F accF t (omega arith));
+          everywhere (own_records E.events) (own_records F.events) (tasks E) (tasks_same E.events F.events (tasks E) m)
+          (no_records E accE) (λ t h. no_records F accF t (omega arith));
     }
 
-work-passes : (E F : Recording) → SameWork E F → workAlike E F ≡ Check.Passed
-unfolding workAlike sameCounts
-work-passes E F w =
-    let starts = levels-pass E.levels.starts F.levels.starts w.starts (semaphoresOf E.counts) in
-    let posts = levels-pass E.levels.posts F.levels.posts w.posts (flags_of E.counts) in
+work_passes : (E F : Recording) → SameWork E F → work_alike E F ≡ Check.Passed
+unfolding work_alike same_counts
+work_passes E F w =
+    let starts = levels_pass E.levels.starts F.levels.starts w.starts (semaphores_of E.counts) in
+    let posts = levels_pass E.levels.posts F.levels.posts w.posts (flags_of E.counts) in
     rw (eq-eqb _ _ w.tasks, eq-eqb _ _ w.semaphores, eq-eqb _ _ w.flags, eq-eqb _ _ w.cells, starts, posts)
-    (tasks-pass E.events F.events w.records (tasks E))
+    (tasks_pass E.events F.events w.records (tasks E))
 
-pub work-alike : (f g : List ℕ) → let E = recordingOf f in
-    let F = recordingOf g in Accepted E → Accepted F → (workAlike E F ≡ Check.Passed) ↔ SameWork E F
-work-alike f g accE accF = (same-work f g accE accF, work-passes (recordingOf f) (recordingOf g))
+pub work_alike_lem : (f g : List ℕ) → let E = recording_of f in
+    let F = recording_of g in Accepted E → Accepted F → (work_alike E F ≡ Check.Passed) ↔ SameWork E F
+work_alike_lem f g accE accF = (same_work f g accE accF, work_passes (recording_of f) (recording_of g))

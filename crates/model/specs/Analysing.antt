@@ -6,53 +6,53 @@ use Rattle.model.specs.declared.Check.{Check}
 use Rattle.model.specs.declared.Analysis.{Analysis}
 use Rattle.model.specs.Refusals.{unless, and_then, after}
 use Rattle.model.specs.Recording.{Recording, size, tasks}
-use Rattle.model.specs.File.{recordingOf}
-use Rattle.model.specs.Reading.{fileCheck}
+use Rattle.model.specs.File.{recording_of}
+use Rattle.model.specs.Reading.{file_check}
 use Rattle.model.specs.Vectors.{flat}
-use Rattle.model.specs.Passes.{safeVectors, passesMade, isSettled}
+use Rattle.model.specs.Passes.{safe_vectors, passes_made, is_settled}
 use Rattle.model.specs.Recorded.{recorded}
-use Rattle.model.specs.Pairs.{listed, entryNumbers}
+use Rattle.model.specs.Pairs.{listed, entry_numbers}
 
 -- the work memory has 2 × N × T numbers
-abbrev pub workFits : Recording → List ℕ → Bool
-workFits E work = leb (2 * (size E * tasks E)) (length work)
+abbrev pub work_fits : Recording → List ℕ → Bool
+work_fits E work = leb (2 * (size E * tasks E)) (length work)
 
 -- the work memory filled: the safe vectors, the recorded vectors, and beyond them what was there
 unfoldable pub filled : Recording → ℕ → List ℕ → List ℕ
-filled E budget work = flat (safeVectors E budget) ++ flat (recorded E) ++ drop (2 * (size E * tasks E)) work
+filled E budget work = flat (safe_vectors E budget) ++ flat (recorded E) ++ drop (2 * (size E * tasks E)) work
 
 -- the list has 3 × pairs numbers
-abbrev pub listFits : Recording → ℕ → List ℕ → Bool
-listFits E budget list = leb (3 * length (listed E budget)) (length list)
+abbrev pub list_fits : Recording → ℕ → List ℕ → Bool
+list_fits E budget list = leb (3 * length (listed E budget)) (length list)
 
 -- the file's refusal, then 9
-unfoldable pub workCheck : List ℕ → List ℕ → Check
-workCheck f work = and_then (fileCheck f) λ _. unless (workFits (recordingOf f) work) Refusal.Work λ _. Check.Passed
+unfoldable pub work_check : List ℕ → List ℕ → Check
+work_check f work = and_then (file_check f) λ _. unless (work_fits (recording_of f) work) Refusal.Work λ _. Check.Passed
 
 -- then 10, with the pairs needed
-unfoldable pub analysisCheck : List ℕ → ℕ → List ℕ → List ℕ → Check
-analysisCheck f budget work list =
-    and_then (workCheck f work) λ _.
-    let E = recordingOf f in unless (listFits E budget list) (Refusal.List (length (listed E budget))) λ _. Check.Passed
+unfoldable pub analysis_check : List ℕ → ℕ → List ℕ → List ℕ → Check
+analysis_check f budget work list =
+    and_then (work_check f work) λ _.
+    let E = recording_of f in unless (list_fits E budget list) (Refusal.List (length (listed E budget))) λ _. Check.Passed
 
 -- passes made, settled, and pairs
 abbrev pub done : Recording → ℕ → Analysis
-done E budget = Analysis.Done (passesMade E budget) (isSettled E budget) (length (listed E budget))
+done E budget = Analysis.Done (passes_made E budget) (is_settled E budget) (length (listed E budget))
 
-abbrev pub analysisBy : Recording → ℕ → Check → Analysis
-analysisBy E budget Check.Passed = done E budget
-analysisBy E budget (Check.Failed r) = Analysis.Refused r
+abbrev pub analysis_by : Recording → ℕ → Check → Analysis
+analysis_by E budget Check.Passed = done E budget
+analysis_by E budget (Check.Failed r) = Analysis.Refused r
 
 -- what analysing answers
-unfoldable pub analysisOf : List ℕ → ℕ → List ℕ → List ℕ → Analysis
-analysisOf f budget work list = analysisBy (recordingOf f) budget (analysisCheck f budget work list)
+unfoldable pub analysis_of : List ℕ → ℕ → List ℕ → List ℕ → Analysis
+analysis_of f budget work list = analysis_by (recording_of f) budget (analysis_check f budget work list)
 
 -- the work memory after analysing: filled, also after 10
-unfoldable pub workAfterAnalysing : List ℕ → ℕ → List ℕ → List ℕ
-workAfterAnalysing f budget work = after (workCheck f work) (λ _. filled (recordingOf f) budget work) work
+unfoldable pub work_after_analysing : List ℕ → ℕ → List ℕ → List ℕ
+work_after_analysing f budget work = after (work_check f work) (λ _. filled (recording_of f) budget work) work
 
 -- the list after analysing: the entries, and beyond the last one what was there
-unfoldable pub listAfterAnalysing : List ℕ → ℕ → List ℕ → List ℕ → List ℕ
-listAfterAnalysing f budget work list =
-    after (analysisCheck f budget work list)
-    (λ _. let l = listed (recordingOf f) budget in entryNumbers l ++ drop (3 * length l) list) list
+unfoldable pub list_after_analysing : List ℕ → ℕ → List ℕ → List ℕ → List ℕ
+list_after_analysing f budget work list =
+    after (analysis_check f budget work list)
+    (λ _. let l = listed (recording_of f) budget in entry_numbers l ++ drop (3 * length l) list) list

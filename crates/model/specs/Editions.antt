@@ -6,54 +6,54 @@ use Rattle.model.specs.declared.Event.{Event}
 use Rattle.model.specs.declared.Trailer.{Trailer}
 use Rattle.model.specs.declared.Reading.{Reading}
 use Rattle.model.specs.Numbers.{filter, found}
-use Rattle.model.specs.Recording.{start_of, post_of, Recording, size, event, task_of, kind_of, objectOf, wait, read, write, waitKept, lifeKept, obeys, semaphoresOf, flags_of}
-use Rattle.model.specs.File.{trailerOf, recordingOf}
-use Rattle.model.specs.Reading.{reading_of, startsOf, postsOf}
+use Rattle.model.specs.Recording.{start_of, post_of, Recording, size, event, task_of, kind_of, object_of, wait, read, write, wait_kept, life_kept, obeys, semaphores_of, flags_of}
+use Rattle.model.specs.File.{trailer_of, recording_of}
+use Rattle.model.specs.Reading.{reading_of, starts_of, posts_of}
 use Rattle.model.specs.Vectors.{Vectors, ordered}
-use Rattle.model.specs.Passes.{sources, signalsOn, k_of, needed, candidates}
+use Rattle.model.specs.Passes.{sources, signals_on, k_of, needed, candidates}
 use Rattle.model.specs.Recorded.{matched, causes}
-use Rattle.model.specs.Pairs.{isSingle, conflict}
+use Rattle.model.specs.Pairs.{is_single, conflict}
 
 -- an access by one of document 01's kinds
 abbrev pub is_plain : Recording → ℕ → Bool
 is_plain E e = eqb (kind_of E e) read || eqb (kind_of E e) write
 
 -- a conflict as document 01 has it
-abbrev pub plainConflict : Recording → ℕ → ℕ → Bool
-plainConflict E a b =
-    is_plain E a && is_plain E b && eqb (objectOf E a) (objectOf E b) && not (eqb (task_of E a) (task_of E b))
+abbrev pub plain_conflict : Recording → ℕ → ℕ → Bool
+plain_conflict E a b =
+    is_plain E a && is_plain E b && eqb (object_of E a) (object_of E b) && not (eqb (task_of E a) (task_of E b))
     && (eqb (kind_of E a) write || eqb (kind_of E b) write)
 
 -- what is said of flags and of single-instruction accesses says nothing of this recording
 pub record AsBefore (E : Recording) : Type 0 where
   -- the field counts semaphores alone, and there is no post count
-  pub semaphores : semaphoresOf E.counts ≡ E.counts.semaphores
+  pub semaphores : semaphores_of E.counts ≡ E.counts.semaphores
   pub flags : flags_of E.counts ≡ 0
   pub posts : E.levels.posts ≡ []
   -- no event is of a later kind than a write
   pub kinds : (e : ℕ) → e < size E → kind_of E e ≤ write
   -- the rules are those of document 01
   pub rules : (before : List Event) (e : ℕ) → e < size E
-      → obeys E.levels before (event E e) ≡ (lifeKept before (event E e) && waitKept E.levels before (event E e))
+      → obeys E.levels before (event E e) ≡ (life_kept before (event E e) && wait_kept E.levels before (event E e))
   -- in step 2, k and the candidates are those of a wait
-  pub k : (X : Vectors) (e : ℕ) → e < size E → needed E X e ≡ cond (eqb (kind_of E e) wait) (k_of E X e (objectOf E e)) 0
-  pub served-by : (X : Vectors) (e : ℕ) → e < size E
-      → candidates E X e ≡ filter (λ s. not (ordered E.events X e s)) (signalsOn E.events (objectOf E e))
+  pub k : (X : Vectors) (e : ℕ) → e < size E → needed E X e ≡ cond (eqb (kind_of E e) wait) (k_of E X e (object_of E e)) 0
+  pub served_by : (X : Vectors) (e : ℕ) → e < size E
+      → candidates E X e ≡ filter (λ s. not (ordered E.events X e s)) (signals_on E.events (object_of E e))
   -- in the recorded run an event follows step 1's and the matched signal
   pub follows : (e : ℕ) → e < size E → causes E.levels E.events e ≡ sources E.events e ++ found (matched E.levels E.events e)
   -- no access is by a single instruction, and the conflicts are those of document 01
-  pub single : (e : ℕ) → e < size E → isSingle (event E e) ≡ false
-  pub conflicts : (a b : ℕ) → a < size E → b < size E → conflict (event E a) (event E b) ≡ plainConflict E a b
+  pub single : (e : ℕ) → e < size E → is_single (event E e) ≡ false
+  pub conflicts : (a b : ℕ) → a < size E → b < size E → conflict (event E a) (event E b) ≡ plain_conflict E a b
 
 pub record Editions : Type 0 where
   -- in edition 1 every start count is 0
-  pub first : (f : List ℕ) → (trailerOf f).counts.edition ≡ 1 → (s : ℕ) → start_of (recordingOf f).levels s ≡ 0
+  pub first : (f : List ℕ) → (trailer_of f).counts.edition ≡ 1 → (s : ℕ) → start_of (recording_of f).levels s ≡ 0
   -- from edition 2 on an accepted file has a start byte for each semaphore
-  pub starts : (f : List ℕ) (h : Trailer) → reading_of f ≡ Reading.Accepted h → 2 ≤ h.counts.edition → length (startsOf f) ≡ semaphoresOf h.counts
+  pub starts : (f : List ℕ) (h : Trailer) → reading_of f ≡ Reading.Accepted h → 2 ≤ h.counts.edition → length (starts_of f) ≡ semaphores_of h.counts
   -- an accepted file has a post byte for each flag
-  pub posts : (f : List ℕ) (h : Trailer) → reading_of f ≡ Reading.Accepted h → length (postsOf f) ≡ flags_of h.counts
+  pub posts : (f : List ℕ) (h : Trailer) → reading_of f ≡ Reading.Accepted h → length (posts_of f) ≡ flags_of h.counts
   -- the start counts and the post counts of an accepted file are these bytes
-  pub start-bytes : (f : List ℕ) (h : Trailer) → reading_of f ≡ Reading.Accepted h → (s : ℕ) → start_of (recordingOf f).levels s ≡ get_or (startsOf f) s 0
-  pub post-bytes : (f : List ℕ) (h : Trailer) → reading_of f ≡ Reading.Accepted h → (g : ℕ) → post_of (recordingOf f).levels g ≡ get_or (postsOf f) g 0
+  pub start_bytes : (f : List ℕ) (h : Trailer) → reading_of f ≡ Reading.Accepted h → (s : ℕ) → start_of (recording_of f).levels s ≡ get_or (starts_of f) s 0
+  pub post_bytes : (f : List ℕ) (h : Trailer) → reading_of f ≡ Reading.Accepted h → (g : ℕ) → post_of (recording_of f).levels g ≡ get_or (posts_of f) g 0
   -- an accepted file of edition 1 or 2 means what it meant
-  pub as_before : (f : List ℕ) (h : Trailer) → reading_of f ≡ Reading.Accepted h → h.counts.edition ≤ 2 → AsBefore (recordingOf f)
+  pub as_before : (f : List ℕ) (h : Trailer) → reading_of f ≡ Reading.Accepted h → h.counts.edition ≤ 2 → AsBefore (recording_of f)

@@ -7,67 +7,67 @@ use Rattle.model.specs.declared.Event.{Event}
 use Rattle.model.specs.declared.Counts.{Counts}
 use Rattle.model.specs.declared.Trailer.{Trailer}
 use Rattle.model.specs.Numbers.{list_of}
-use Rattle.model.specs.Recording.{Levels, Recording, semaphoresOf, flags_of}
+use Rattle.model.specs.Recording.{Levels, Recording, semaphores_of, flags_of}
 
 -- the number of two bytes at i
-unfoldable pub u16At : List ℕ → ℕ → ℕ
-u16At s i = get_or s i 0 + 256 * get_or s (i + 1) 0
+unfoldable pub u16_at : List ℕ → ℕ → ℕ
+u16_at s i = get_or s i 0 + 256 * get_or s (i + 1) 0
 
 -- the number of four bytes at i
 unfoldable pub u32_at : List ℕ → ℕ → ℕ
-u32_at s i = u16At s i + 65536 * u16At s (i + 2)
+u32_at s i = u16_at s i + 65536 * u16_at s (i + 2)
 
 -- a record: task (1), kind (1), object (2)
-unfoldable pub eventAt : List ℕ → ℕ → Event
-eventAt s e = record { task = get_or s (4 * e) 0; kind = get_or s (4 * e + 1) 0; object = u16At s (4 * e + 2) }
+unfoldable pub event_at : List ℕ → ℕ → Event
+event_at s e = record { task = get_or s (4 * e) 0; kind = get_or s (4 * e + 1) 0; object = u16_at s (4 * e + 2) }
 
 -- the whole records of record bytes
-unfoldable pub eventsOf : List ℕ → List Event
-eventsOf s = list_of (eventAt s) (length s / 4)
+unfoldable pub events_of : List ℕ → List Event
+events_of s = list_of (event_at s) (length s / 4)
 
 -- where the trailer starts
-abbrev pub trailerAt : List ℕ → ℕ
-trailerAt f = length f - 16
+abbrev pub trailer_at : List ℕ → ℕ
+trailer_at f = length f - 16
 
 -- the trailer: start (4), N (4), tasks (2), semaphores and flags (2), cells (2), edition (2)
-unfoldable pub trailerOf : List ℕ → Trailer
-trailerOf f =
+unfoldable pub trailer_of : List ℕ → Trailer
+trailer_of f =
     record {
-      start = u32_at f (trailerAt f);
-      records = u32_at f (trailerAt f + 4);
+      start = u32_at f (trailer_at f);
+      records = u32_at f (trailer_at f + 4);
       counts =
           record {
-            tasks = u16At f (trailerAt f + 8);
-            semaphores = u16At f (trailerAt f + 10);
-            cells = u16At f (trailerAt f + 12);
-            edition = u16At f (trailerAt f + 14);
+            tasks = u16_at f (trailer_at f + 8);
+            semaphores = u16_at f (trailer_at f + 10);
+            cells = u16_at f (trailer_at f + 12);
+            edition = u16_at f (trailer_at f + 14);
           };
     }
 
 -- the records' part of a file with this trailer
-unfoldable pub recordBytes : List ℕ → Trailer → List ℕ
-recordBytes f h = take (4 * h.records) (drop h.start f)
+unfoldable pub record_bytes : List ℕ → Trailer → List ℕ
+record_bytes f h = take (4 * h.records) (drop h.start f)
 
 -- how many start bytes a file has: in edition 1 none, from edition 2 on one for each semaphore
-unfoldable pub startCount : Counts → ℕ
-startCount c = cond (eqb c.edition 1) 0 (semaphoresOf c)
+unfoldable pub start_count : Counts → ℕ
+start_count c = cond (eqb c.edition 1) 0 (semaphores_of c)
 
 -- how many level bytes stand between the last record and the trailer: the start bytes, then a post byte for each flag
-unfoldable pub levelCount : Counts → ℕ
-levelCount c = startCount c + flags_of c
+unfoldable pub level_count : Counts → ℕ
+level_count c = start_count c + flags_of c
 
 -- that part of a file with this trailer
-unfoldable pub levelBytes : List ℕ → Trailer → List ℕ
-levelBytes f h = take (levelCount h.counts) (drop (h.start + 4 * h.records) f)
+unfoldable pub level_bytes : List ℕ → Trailer → List ℕ
+level_bytes f h = take (level_count h.counts) (drop (h.start + 4 * h.records) f)
 
 -- the levels that these bytes give
-abbrev pub levelsBy : Counts → List ℕ → Levels
-levelsBy c b = record { starts = take (startCount c) b; posts = drop (startCount c) b }
+abbrev pub levels_by : Counts → List ℕ → Levels
+levels_by c b = record { starts = take (start_count c) b; posts = drop (start_count c) b }
 
 -- the recording of these record bytes, counts and level bytes
-abbrev pub recordingBy : List ℕ → Counts → List ℕ → Recording
-recordingBy s c b = record { counts = c; levels = levelsBy c b; events = eventsOf s }
+abbrev pub recording_by : List ℕ → Counts → List ℕ → Recording
+recording_by s c b = record { counts = c; levels = levels_by c b; events = events_of s }
 
 -- the recording that a file holds
-unfoldable pub recordingOf : List ℕ → Recording
-recordingOf f = recordingBy (recordBytes f (trailerOf f)) (trailerOf f).counts (levelBytes f (trailerOf f))
+unfoldable pub recording_of : List ℕ → Recording
+recording_of f = recording_by (record_bytes f (trailer_of f)) (trailer_of f).counts (level_bytes f (trailer_of f))

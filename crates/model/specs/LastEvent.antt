@@ -4,24 +4,24 @@
 use Rattle.std.specs.Prelude.{ℕ, ◌-◌, ◌≤◌, ◌<◌, ◌≡◌, true, false, List, ◌↔◌, length, take}
 use Rattle.model.specs.declared.Event.{Event}
 use Rattle.model.specs.declared.Found.{Found}
-use Rattle.model.specs.Recording.{Recording, size, eventIn, event, ofTask, isJoin, Accepted}
-use Rattle.model.specs.Passes.{lastEvent}
+use Rattle.model.specs.Recording.{Recording, size, event_in, event, of_task, is_join, Accepted}
+use Rattle.model.specs.Passes.{last_event}
 
 -- of n records those from the hit on, or all
-abbrev pub fromHit : ℕ → Found → ℕ
-fromHit n (Found.At a) = n - a
-fromHit n Found.Nothing = n
+abbrev pub from_hit : ℕ → Found → ℕ
+from_hit n (Found.At a) = n - a
+from_hit n Found.Nothing = n
 
 -- how many of the records l are read, going back from the last one, until the last event of task t is found
-unfoldable pub recordsRead : List Event → ℕ → ℕ
-recordsRead l t = fromHit (length l) (lastEvent l t)
+unfoldable pub records_read : List Event → ℕ → ℕ
+records_read l t = from_hit (length l) (last_event l t)
 
 -- what is found among the records l for task t
 pub record Looked (l : List Event) (t : ℕ) : Type 0 where
   -- a record of the task, and the task has none behind it
-  pub hit : (a : ℕ) → lastEvent l t ≡ Found.At a → (a < length l) × (ofTask t (eventIn l a) ≡ true) × ((b : ℕ) → a < b → b < length l → ofTask t (eventIn l b) ≡ false)
+  pub hit : (a : ℕ) → last_event l t ≡ Found.At a → (a < length l) × (of_task t (event_in l a) ≡ true) × ((b : ℕ) → a < b → b < length l → of_task t (event_in l b) ≡ false)
   -- none exactly when the task has no record there
-  pub none : (lastEvent l t ≡ Found.Nothing) ↔ ((a : ℕ) → a < length l → ofTask t (eventIn l a) ≡ false)
+  pub none : (last_event l t ≡ Found.Nothing) ↔ ((a : ℕ) → a < length l → of_task t (event_in l a) ≡ false)
 
 -- the statement, proved as `looked` in proofs/LastEvent.antt
 abbrev pub LookedBack : Type 0
@@ -29,10 +29,10 @@ LookedBack = (l : List Event) (t : ℕ) → Looked l t
 
 -- no record of a joined task follows its join, nor is the join one
 abbrev pub NoneAfterJoin : List Event → Type 0
-NoneAfterJoin l = (t e a : ℕ) → isJoin t (eventIn l e) ≡ true → e ≤ a → a < length l → ofTask t (eventIn l a) ≡ false
+NoneAfterJoin l = (t e a : ℕ) → is_join t (event_in l e) ≡ true → e ≤ a → a < length l → of_task t (event_in l a) ≡ false
 
--- the law, proved as `last-before-join` in proofs/LastEvent.antt: in an accepted recording the last event of a joined task is the last
+-- the law, proved as `last_before_join` in proofs/LastEvent.antt: in an accepted recording the last event of a joined task is the last
 -- before its join
 abbrev pub LastBeforeJoin : Type 0
 LastBeforeJoin =
-    (E : Recording) → Accepted E → (t e : ℕ) → e < size E → isJoin t (event E e) ≡ true → lastEvent E.events t ≡ lastEvent (take e E.events) t
+    (E : Recording) → Accepted E → (t e : ℕ) → e < size E → is_join t (event E e) ≡ true → last_event E.events t ≡ last_event (take e E.events) t

@@ -46,9 +46,9 @@ flat_map f [] = []
 flat_map f (x ∷ l) = f x ++ flat_map f l
 
 -- f of each element of the list and the elements behind it, one after another
-unfoldable pub flatMapTails : {A B : Type 0} → (A → List A → List B) → List A → List B
-flatMapTails f [] = []
-flatMapTails f (x ∷ l) = f x l ++ flatMapTails f l
+unfoldable pub flat_map_tails : {A B : Type 0} → (A → List A → List B) → List A → List B
+flat_map_tails f [] = []
+flat_map_tails f (x ∷ l) = f x l ++ flat_map_tails f l
 
 -- the numbers below n that pass the test, in order
 unfoldable pub picked : (ℕ → Bool) → ℕ → List ℕ
@@ -85,6 +85,6 @@ sort [] = []
 sort (x ∷ l) = insert x (sort l)
 
 -- the k-th least, from 1: the k-th number once sorted; 0 where there are fewer than k, and for k = 0
-unfoldable pub kthLeast : ℕ → List ℕ → ℕ
-kthLeast zero l = 0
-kthLeast (suc k) l = get_or (sort l) k 0
+unfoldable pub kth_least : ℕ → List ℕ → ℕ
+kth_least zero l = 0
+kth_least (suc k) l = get_or (sort l) k 0

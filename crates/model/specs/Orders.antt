@@ -3,7 +3,7 @@
 use Rattle.std.specs.Prelude.{ℕ, suc, ◌<◌, ◌≡◌, true, cond, List, [], ◌∷◌, map, ltb, eqb, length, get_or, take}
 use Rattle.model.specs.declared.Event.{Event}
 use Rattle.model.specs.Numbers.{bit, count, picked}
-use Rattle.model.specs.Recording.{Levels, Recording, size, noEvent, event, task_of, obeys}
+use Rattle.model.specs.Recording.{Levels, Recording, size, no_event, event, task_of, obeys}
 
 -- where the order puts event e; its length where it does not have it
 unfoldable pub place : List ℕ → ℕ → ℕ
@@ -15,8 +15,8 @@ abbrev pub Precedes : List ℕ → ℕ → ℕ → Type 0
 Precedes o a b = place o a < place o b
 
 -- the order of the file itself
-unfoldable pub fileOrder : Recording → List ℕ
-fileOrder E = picked (λ e. true) (size E)
+unfoldable pub file_order : Recording → List ℕ
+file_order E = picked (λ e. true) (size E)
 
 -- how often event e stands in the order
 abbrev pub occurrences : ℕ → List ℕ → ℕ
@@ -27,12 +27,12 @@ abbrev pub rearranged : Recording → List ℕ → List Event
 rearranged E o = map (event E) o
 
 -- the recording with its records in this order
-abbrev pub inOrder : Recording → List ℕ → Recording
-inOrder E o = record { counts = E.counts; levels = E.levels; events = rearranged E o }
+abbrev pub in_order : Recording → List ℕ → Recording
+in_order E o = record { counts = E.counts; levels = E.levels; events = rearranged E o }
 
 -- each record obeys the rules after those before it
 abbrev pub Obeying : Levels → List Event → Type 0
-Obeying x l = (i : ℕ) → i < length l → obeys x (take i l) (get_or l i noEvent) ≡ true
+Obeying x l = (i : ℕ) → i < length l → obeys x (take i l) (get_or l i no_event) ≡ true
 
 -- an admissible order: each event once, each task's own order kept, the rules obeyed
 pub record Admissible (E : Recording) (o : List ℕ) : Type 0 where

@@ -5,10 +5,10 @@ use mathlib.Core.List.{List, Memᴰ}
 use Rattle.model.specs.declared.Trailer.{Trailer}
 use Rattle.model.specs.declared.Reading.{Reading}
 use Rattle.model.specs.Recording.{Recording, size, event}
-use Rattle.model.specs.File.{recordingOf}
+use Rattle.model.specs.File.{recording_of}
 use Rattle.model.specs.Reading.{reading_of}
 use Rattle.model.specs.Orders.{Always, Sometimes}
-use Rattle.model.specs.Passes.{stepOne, needed, candidates, passTo, safeVectors, passesMade, isSettled}
+use Rattle.model.specs.Passes.{step_one, needed, candidates, pass_to, safe_vectors, passes_made, is_settled}
 use Rattle.model.specs.Pairs.{conflict, Entry, OnList, listed}
 
 pub record Promise (E : Recording) (budget : ℕ) : Type 0 where
@@ -19,21 +19,21 @@ pub record Promise (E : Recording) (budget : ℕ) : Type 0 where
   -- a larger budget never adds a pair
   pub adds_none : (larger : ℕ) → budget ≤ larger → (a b m : ℕ) → OnList E a b larger m → (n : ℕ) × OnList E a b budget n
   -- or changes a mark
-  pub keeps-marks : (larger : ℕ) → budget ≤ larger → (a b m n : ℕ) → OnList E a b larger m → OnList E a b budget n → m ≡ n
+  pub keeps_marks : (larger : ℕ) → budget ≤ larger → (a b m n : ℕ) → OnList E a b larger m → OnList E a b budget n → m ≡ n
   -- with N events, every budget of N × N + 1 or more is settled
-  pub settles : size E * size E + 1 ≤ budget → isSettled E budget ≡ true
+  pub settles : size E * size E + 1 ≤ budget → is_settled E budget ≡ true
   -- where one budget is settled, every larger one gives the same list and marks
-  pub keeps-list : isSettled E budget ≡ true → (larger : ℕ) → budget ≤ larger → listed E larger ≡ listed E budget
+  pub keeps_list : is_settled E budget ≡ true → (larger : ℕ) → budget ≤ larger → listed E larger ≡ listed E budget
   -- and the same pass count
-  pub keeps-passes : isSettled E budget ≡ true → (larger : ℕ) → budget ≤ larger → passesMade E larger ≡ passesMade E budget
+  pub keeps_passes : is_settled E budget ≡ true → (larger : ℕ) → budget ≤ larger → passes_made E larger ≡ passes_made E budget
 
 -- the statement, proved as `promise` in proofs/Promise.antt
 abbrev pub Promised : Type 0
-Promised = (f : List ℕ) (h : Trailer) → reading_of f ≡ Reading.Accepted h → (budget : ℕ) → Promise (recordingOf f) budget
+Promised = (f : List ℕ) (h : Trailer) → reading_of f ≡ Reading.Accepted h → (budget : ℕ) → Promise (recording_of f) budget
 
--- fewer than k candidates never happens: of an accepted file, in no pass; proved as `enough-candidates` in proofs/Promise.antt
+-- fewer than k candidates never happens: of an accepted file, in no pass; proved as `enough_candidates` in proofs/Promise.antt
 abbrev pub EnoughCandidates : Type 0
 EnoughCandidates =
-    (f : List ℕ) (h : Trailer) → reading_of f ≡ Reading.Accepted h → (budget e : ℕ) → e < size (recordingOf f)
-    → let E = recordingOf f in
-    let X = stepOne E (passTo E (safeVectors E budget) e) e in needed E X e ≤ length (candidates E X e)
+    (f : List ℕ) (h : Trailer) → reading_of f ≡ Reading.Accepted h → (budget e : ℕ) → e < size (recording_of f)
+    → let E = recording_of f in
+    let X = step_one E (pass_to E (safe_vectors E budget) e) e in needed E X e ≤ length (candidates E X e)

@@ -3,17 +3,17 @@
 -- Assumes nothing.
 use Rattle.std.specs.Prelude.{ℕ, ◌<◌, ◌≡◌, ◌⊎◌, length, get_or}
 use mathlib.Core.List.{[], ◌∷◌, Memᴰ}
-use Rattle.model.specs.Recording.{Recording, kind_of, objectOf, wait, flagWait}
+use Rattle.model.specs.Recording.{Recording, kind_of, object_of, wait, flag_wait}
 use Rattle.model.specs.Vectors.{Vectors}
-use Rattle.model.specs.Passes.{sources, eventsOn, serving, raised}
+use Rattle.model.specs.Passes.{sources, events_on, serving, raised}
 
 -- e is a wait of either kind
 abbrev pub Waiting : Recording → ℕ → Type 0
-Waiting E e = (kind_of E e ≡ wait) ⊎ (kind_of E e ≡ flagWait)
+Waiting E e = (kind_of E e ≡ wait) ⊎ (kind_of E e ≡ flag_wait)
 
 -- raising e reads the vector of a: of e and its sources, and for a wait of its semaphore's signals or its flag's posts
 abbrev pub Reads : Recording → ℕ → ℕ → Type 0
-Reads E e a = Memᴰ a (e ∷ sources E.events e) ⊎ (Waiting E e × Memᴰ a (eventsOn E.events (serving (kind_of E e)) (objectOf E e)))
+Reads E e a = Memᴰ a (e ∷ sources E.events e) ⊎ (Waiting E e × Memᴰ a (events_on E.events (serving (kind_of E e)) (object_of E e)))
 
 -- event a has the same vector in X and in Y
 abbrev pub Alike : Vectors → Vectors → ℕ → Type 0

@@ -8,78 +8,78 @@ use Rattle.model.specs.declared.Check.{Check}
 use Rattle.model.specs.declared.Reading.{Reading}
 use Rattle.model.specs.Numbers.{count}
 use Rattle.model.specs.Refusals.{unless, after}
-use Rattle.model.specs.Recording.{size, semaphoresOf, flags_of, firstFault}
-use Rattle.model.specs.File.{trailerAt, trailerOf, recordBytes, levelCount, recordingOf}
+use Rattle.model.specs.Recording.{size, semaphores_of, flags_of, first_fault}
+use Rattle.model.specs.File.{trailer_at, trailer_of, record_bytes, level_count, recording_of}
 
 -- the last edition; the first is 1
-abbrev pub lastEdition : ℕ
-lastEdition = 3
+abbrev pub last_edition : ℕ
+last_edition = 3
 
 -- a known edition, 1 to 3
-unfoldable pub knownEdition : Counts → Bool
-knownEdition c = leb 1 c.edition && leb c.edition lastEdition
+unfoldable pub known_edition : Counts → Bool
+known_edition c = leb 1 c.edition && leb c.edition last_edition
 
 -- start + 4 × N + the level bytes = length - 16, as whole numbers
-unfoldable pub extentMet : List ℕ → Bool
-extentMet f = eqb ((trailerOf f).start + 4 * (trailerOf f).records + levelCount (trailerOf f).counts) (trailerAt f)
+unfoldable pub extent_met : List ℕ → Bool
+extent_met f = eqb ((trailer_of f).start + 4 * (trailer_of f).records + level_count (trailer_of f).counts) (trailer_at f)
 
 -- the most tasks, semaphores, flags, cells and events that a recording has
-abbrev pub mostTasks : ℕ
-mostTasks = 16
+abbrev pub most_tasks : ℕ
+most_tasks = 16
 
-abbrev pub mostSemaphores : ℕ
-mostSemaphores = 64
+abbrev pub most_semaphores : ℕ
+most_semaphores = 64
 
-abbrev pub mostFlags : ℕ
-mostFlags = 64
+abbrev pub most_flags : ℕ
+most_flags = 64
 
-abbrev pub mostCells : ℕ
-mostCells = 1024
+abbrev pub most_cells : ℕ
+most_cells = 1024
 
-abbrev pub mostEvents : ℕ
-mostEvents = 1024
+abbrev pub most_events : ℕ
+most_events = 1024
 
 -- tasks 1 to 16, semaphores 0 to 64, flags 0 to 64, cells 0 to 1,024, and N, the number of records, 0 to 1,024
 unfoldable pub in_range : Counts → ℕ → Bool
 in_range c n =
-    leb 1 c.tasks && leb c.tasks mostTasks && leb (semaphoresOf c) mostSemaphores && leb (flags_of c) mostFlags && leb c.cells mostCells
-    && leb n mostEvents
+    leb 1 c.tasks && leb c.tasks most_tasks && leb (semaphores_of c) most_semaphores && leb (flags_of c) most_flags && leb c.cells most_cells
+    && leb n most_events
 
 -- no post count is 0
-unfoldable pub postsUp : List ℕ → Bool
-postsUp p = eqb (count (eqb 0) p) 0
+unfoldable pub posts_up : List ℕ → Bool
+posts_up p = eqb (count (eqb 0) p) 0
 
 -- refusals 1 to 4, then the first faulty record by 5 to 8 and 16
-unfoldable pub fileCheck : List ℕ → Check
-fileCheck f =
+unfoldable pub file_check : List ℕ → Check
+file_check f =
     unless (leb 16 (length f)) Refusal.Short λ _.
-    unless (knownEdition (trailerOf f).counts) Refusal.Edition λ _.
-    unless (extentMet f) Refusal.Extent λ _.
-    unless (in_range (trailerOf f).counts (trailerOf f).records) Refusal.Count λ _.
-    let E = recordingOf f in
-    unless (postsUp E.levels.posts) Refusal.Count λ _.
-    firstFault E (size E)
+    unless (known_edition (trailer_of f).counts) Refusal.Edition λ _.
+    unless (extent_met f) Refusal.Extent λ _.
+    unless (in_range (trailer_of f).counts (trailer_of f).records) Refusal.Count λ _.
+    let E = recording_of f in
+    unless (posts_up E.levels.posts) Refusal.Count λ _.
+    first_fault E (size E)
 
-abbrev pub readingBy : Trailer → Check → Reading
-readingBy h Check.Passed = Reading.Accepted h
-readingBy h (Check.Failed r) = Reading.Refused r
+abbrev pub reading_by : Trailer → Check → Reading
+reading_by h Check.Passed = Reading.Accepted h
+reading_by h (Check.Failed r) = Reading.Refused r
 
 -- what reading answers
 unfoldable pub reading_of : List ℕ → Reading
-reading_of f = readingBy (trailerOf f) (fileCheck f)
+reading_of f = reading_by (trailer_of f) (file_check f)
 
 -- the preamble: the part of the file before the first record; of a refused file, the empty part
-unfoldable pub preambleOf : List ℕ → List ℕ
-preambleOf f = after (fileCheck f) (λ _. take (trailerOf f).start f) []
+unfoldable pub preamble_of : List ℕ → List ℕ
+preamble_of f = after (file_check f) (λ _. take (trailer_of f).start f) []
 
 -- the records' part of the file; of a refused file, the empty part
-unfoldable pub recordsOf : List ℕ → List ℕ
-recordsOf f = after (fileCheck f) (λ _. recordBytes f (trailerOf f)) []
+unfoldable pub records_of : List ℕ → List ℕ
+records_of f = after (file_check f) (λ _. record_bytes f (trailer_of f)) []
 
 -- the start bytes' part of the file; of a refused file, as of edition 1, the empty part
-unfoldable pub startsOf : List ℕ → List ℕ
-startsOf f = after (fileCheck f) (λ _. (recordingOf f).levels.starts) []
+unfoldable pub starts_of : List ℕ → List ℕ
+starts_of f = after (file_check f) (λ _. (recording_of f).levels.starts) []
 
 -- the post bytes' part of the file; of a refused file, as of editions 1 and 2, the empty part
-unfoldable pub postsOf : List ℕ → List ℕ
-postsOf f = after (fileCheck f) (λ _. (recordingOf f).levels.posts) []
+unfoldable pub posts_of : List ℕ → List ℕ
+posts_of f = after (file_check f) (λ _. (recording_of f).levels.posts) []

@@ -4,43 +4,43 @@ use Rattle.std.specs.Prelude.{ℕ, zero, suc, ◌-◌, Bool, true, false, cond, 
 use Rattle.model.specs.declared.Event.{Event}
 use Rattle.model.specs.declared.Found.{Found}
 use Rattle.model.specs.Numbers.{tally, nth, found}
-use Rattle.model.specs.Recording.{Levels, start_of, post_of, Recording, size, eventIn, wait, flagWait, isWait}
+use Rattle.model.specs.Recording.{Levels, start_of, post_of, Recording, size, event_in, wait, flag_wait, is_wait}
 use Rattle.model.specs.Vectors.{Vectors, start}
-use Rattle.model.specs.Passes.{sources, gathered, signalsOn, postsOn}
+use Rattle.model.specs.Passes.{sources, gathered, signals_on, posts_on}
 
 -- how many waits on e's semaphore the file has before e
-abbrev pub waitsBefore : List Event → ℕ → ℕ
-waitsBefore l e = tally (λ w. isWait (eventIn l e).object (eventIn l w)) e
+abbrev pub waits_before : List Event → ℕ → ℕ
+waits_before l e = tally (λ w. is_wait (event_in l e).object (event_in l w)) e
 
 -- the signal of a wait e on a semaphore with the start count n: the first n waits have none, later ones match from the first signal on
-abbrev pub matchAfter : ℕ → List Event → ℕ → Found
-matchAfter n l e = cond (ltb (waitsBefore l e) n) Found.Nothing (nth (signalsOn l (eventIn l e).object) (waitsBefore l e - n))
+abbrev pub match_after : ℕ → List Event → ℕ → Found
+match_after n l e = cond (ltb (waits_before l e) n) Found.Nothing (nth (signals_on l (event_in l e).object) (waits_before l e - n))
 
 -- the signal that e is matched with, in a recording with the levels x; nothing where it is no wait
-abbrev pub matchWhere : Levels → List Event → ℕ → Bool → Found
-matchWhere x l e true = matchAfter (start_of x (eventIn l e).object) l e
-matchWhere x l e false = Found.Nothing
+abbrev pub match_where : Levels → List Event → ℕ → Bool → Found
+match_where x l e true = match_after (start_of x (event_in l e).object) l e
+match_where x l e false = Found.Nothing
 
 unfoldable pub matched : Levels → List Event → ℕ → Found
-matched x l e = matchWhere x l e (eqb (eventIn l e).kind wait)
+matched x l e = match_where x l e (eqb (event_in l e).kind wait)
 
 -- the posts that a flag wait e follows: the file's first ones on its flag, as many as the post count; none where e is no flag wait
-abbrev pub openWhere : Levels → List Event → ℕ → Bool → List ℕ
-openWhere x l e true = take (post_of x (eventIn l e).object) (postsOn l (eventIn l e).object)
-openWhere x l e false = []
+abbrev pub open_where : Levels → List Event → ℕ → Bool → List ℕ
+open_where x l e true = take (post_of x (event_in l e).object) (posts_on l (event_in l e).object)
+open_where x l e false = []
 
 unfoldable pub opened : Levels → List Event → ℕ → List ℕ
-opened x l e = openWhere x l e (eqb (eventIn l e).kind flagWait)
+opened x l e = open_where x l e (eqb (event_in l e).kind flag_wait)
 
 -- the events that e follows in the recorded run: step 1's, for a wait the matched signal, and for a flag wait the first posts
 abbrev pub causes : Levels → List Event → ℕ → List ℕ
 causes x l e = sources l e ++ (found (matched x l e) ++ opened x l e)
 
 -- the vectors when those of the events below n have been made
-unfoldable pub recordedTo : Recording → ℕ → Vectors
-recordedTo E zero = start E
-recordedTo E (suc n) = let Y = recordedTo E n in set Y n (gathered E Y (causes E.levels E.events n) n)
+unfoldable pub recorded_to : Recording → ℕ → Vectors
+recorded_to E zero = start E
+recorded_to E (suc n) = let Y = recorded_to E n in set Y n (gathered E Y (causes E.levels E.events n) n)
 
 -- the recorded vectors
 unfoldable pub recorded : Recording → Vectors
-recorded E = recordedTo E (size E)
+recorded E = recorded_to E (size E)

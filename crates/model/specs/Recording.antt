@@ -42,25 +42,25 @@ cells E = E.counts.cells
 abbrev pub with_flags : ℕ
 with_flags = 3
 
-abbrev pub hasFlags : Counts → Bool
-hasFlags c = eqb c.edition with_flags
+abbrev pub has_flags : Counts → Bool
+has_flags c = eqb c.edition with_flags
 
 -- the semaphores and the flags: with flags, the low and the high byte of one field
-unfoldable pub semaphoresOf : Counts → ℕ
-semaphoresOf c = cond (hasFlags c) (c.semaphores % 256) c.semaphores
+unfoldable pub semaphores_of : Counts → ℕ
+semaphores_of c = cond (has_flags c) (c.semaphores % 256) c.semaphores
 
 unfoldable pub flags_of : Counts → ℕ
-flags_of c = cond (hasFlags c) (c.semaphores / 256) 0
+flags_of c = cond (has_flags c) (c.semaphores / 256) 0
 
-abbrev pub noEvent : Event
-noEvent = record { task = 0; kind = 0; object = 0 }
+abbrev pub no_event : Event
+no_event = record { task = 0; kind = 0; object = 0 }
 
 -- event e is record e
-abbrev pub eventIn : List Event → ℕ → Event
-eventIn l e = get_or l e noEvent
+abbrev pub event_in : List Event → ℕ → Event
+event_in l e = get_or l e no_event
 
 abbrev pub event : Recording → ℕ → Event
-event E e = eventIn E.events e
+event E e = event_in E.events e
 
 abbrev pub task_of : Recording → ℕ → ℕ
 task_of E e = (event E e).task
@@ -68,8 +68,8 @@ task_of E e = (event E e).task
 abbrev pub kind_of : Recording → ℕ → ℕ
 kind_of E e = (event E e).kind
 
-abbrev pub objectOf : Recording → ℕ → ℕ
-objectOf E e = (event E e).object
+abbrev pub object_of : Recording → ℕ → ℕ
+object_of E e = (event E e).object
 
 -- ---- kinds
 
@@ -94,37 +94,37 @@ write = 6
 abbrev pub post : ℕ
 post = 7
 
-abbrev pub flagWait : ℕ
-flagWait = 8
+abbrev pub flag_wait : ℕ
+flag_wait = 8
 
 -- a read and a write by the processor's own single-instruction access
-abbrev pub singleRead : ℕ
-singleRead = 9
+abbrev pub single_read : ℕ
+single_read = 9
 
-abbrev pub singleWrite : ℕ
-singleWrite = 10
+abbrev pub single_write : ℕ
+single_write = 10
 
-abbrev pub ofTask : ℕ → Event → Bool
-ofTask t v = eqb v.task t
+abbrev pub of_task : ℕ → Event → Bool
+of_task t v = eqb v.task t
 
 -- an event of this kind on this object
-abbrev pub isOn : ℕ → ℕ → Event → Bool
-isOn k x v = eqb v.kind k && eqb v.object x
+abbrev pub is_on : ℕ → ℕ → Event → Bool
+is_on k x v = eqb v.kind k && eqb v.object x
 
-abbrev pub isSignal : ℕ → Event → Bool
-isSignal s v = isOn signal s v
+abbrev pub is_signal : ℕ → Event → Bool
+is_signal s v = is_on signal s v
 
-abbrev pub isWait : ℕ → Event → Bool
-isWait s v = isOn wait s v
+abbrev pub is_wait : ℕ → Event → Bool
+is_wait s v = is_on wait s v
 
-abbrev pub isFork : ℕ → Event → Bool
-isFork t v = isOn fork t v
+abbrev pub is_fork : ℕ → Event → Bool
+is_fork t v = is_on fork t v
 
-abbrev pub isJoin : ℕ → Event → Bool
-isJoin t v = isOn join t v
+abbrev pub is_join : ℕ → Event → Bool
+is_join t v = is_on join t v
 
-abbrev pub isPost : ℕ → Event → Bool
-isPost g v = isOn post g v
+abbrev pub is_post : ℕ → Event → Bool
+is_post g v = is_on post g v
 
 -- ---- the rules, for the event v after the events `before`, in a recording with the levels x
 
@@ -133,38 +133,38 @@ implies true b = b
 implies false b = true
 
 -- a task that has been joined has no later record
-abbrev pub notJoined : List Event → Event → Bool
-notJoined before v = eqb (count (isJoin v.task) before) 0
+abbrev pub not_joined : List Event → Event → Bool
+not_joined before v = eqb (count (is_join v.task) before) 0
 
 -- a fork names another task, not forked before and with no record before
-abbrev pub forkKept : List Event → Event → Bool
-forkKept before v =
+abbrev pub fork_kept : List Event → Event → Bool
+fork_kept before v =
     implies (eqb v.kind fork)
-    (not (eqb v.object v.task) && eqb (count (isFork v.object) before) 0 && eqb (count (ofTask v.object) before) 0)
+    (not (eqb v.object v.task) && eqb (count (is_fork v.object) before) 0 && eqb (count (of_task v.object) before) 0)
 
 -- a join names another task, forked before and not joined before
-abbrev pub joinKept : List Event → Event → Bool
-joinKept before v =
+abbrev pub join_kept : List Event → Event → Bool
+join_kept before v =
     implies (eqb v.kind join)
-    (not (eqb v.object v.task) && ltb 0 (count (isFork v.object) before) && eqb (count (isJoin v.object) before) 0)
+    (not (eqb v.object v.task) && ltb 0 (count (is_fork v.object) before) && eqb (count (is_join v.object) before) 0)
 
 -- at a wait, the start count of that semaphore and the earlier signals on it together outnumber the earlier waits on it
-unfoldable pub waitKept : Levels → List Event → Event → Bool
-waitKept x before v =
+unfoldable pub wait_kept : Levels → List Event → Event → Bool
+wait_kept x before v =
     implies (eqb v.kind wait)
-    (ltb (count (isWait v.object) before) (start_of x v.object + count (isSignal v.object) before))
+    (ltb (count (is_wait v.object) before) (start_of x v.object + count (is_signal v.object) before))
 
 -- at a flag wait, the earlier posts on that flag are at least its post count; none is used up
-unfoldable pub flagKept : Levels → List Event → Event → Bool
-flagKept x before v = implies (eqb v.kind flagWait) (leb (post_of x v.object) (count (isPost v.object) before))
+unfoldable pub flag_kept : Levels → List Event → Event → Bool
+flag_kept x before v = implies (eqb v.kind flag_wait) (leb (post_of x v.object) (count (is_post v.object) before))
 
 -- the first three rules
-unfoldable pub lifeKept : List Event → Event → Bool
-lifeKept before v = notJoined before v && forkKept before v && joinKept before v
+unfoldable pub life_kept : List Event → Event → Bool
+life_kept before v = not_joined before v && fork_kept before v && join_kept before v
 
 -- all of them
 unfoldable pub obeys : Levels → List Event → Event → Bool
-obeys x before v = lifeKept before v && waitKept x before v && flagKept x before v
+obeys x before v = life_kept before v && wait_kept x before v && flag_kept x before v
 
 -- ---- the first faulty record
 
@@ -180,39 +180,39 @@ class_of k = get_or classes k Class.Nothing
 -- how many names a class has
 abbrev pub names_of : Counts → Class → ℕ
 names_of c Class.Nothing = 0
-names_of c Class.Semaphore = semaphoresOf c
+names_of c Class.Semaphore = semaphores_of c
 names_of c Class.Task = c.tasks
 names_of c Class.Cell = c.cells
 names_of c Class.Flag = flags_of c
 
 -- the last kind: 6, in edition 3 10
-unfoldable pub lastKind : Counts → ℕ
-lastKind c = cond (hasFlags c) singleWrite write
+unfoldable pub last_kind : Counts → ℕ
+last_kind c = cond (has_flags c) single_write write
 
 -- the kind is one of the edition's, from 1 on
-unfoldable pub knownKind : Counts → Event → Bool
-knownKind c v = leb signal v.kind && leb v.kind (lastKind c)
+unfoldable pub known_kind : Counts → Event → Bool
+known_kind c v = leb signal v.kind && leb v.kind (last_kind c)
 
 -- task and object are below their counts
 unfoldable pub named : Counts → Event → Bool
 named c v = ltb v.task c.tasks && ltb v.object (names_of c (class_of v.kind))
 
 -- the check of the event v after the events `before`, whose number is that of the record
-unfoldable pub recordCheck : Counts → Levels → List Event → Event → Check
-recordCheck c x before v =
+unfoldable pub record_check : Counts → Levels → List Event → Event → Check
+record_check c x before v =
     let e = length before in
-    unless (knownKind c v) (Refusal.Kind e) λ _.
+    unless (known_kind c v) (Refusal.Kind e) λ _.
     unless (named c v) (Refusal.Name e) λ _.
-    unless (lifeKept before v) (Refusal.Life e) λ _.
-    unless (waitKept x before v) (Refusal.Empty e) λ _.
-    unless (flagKept x before v) (Refusal.Flag e) λ _.
+    unless (life_kept before v) (Refusal.Life e) λ _.
+    unless (wait_kept x before v) (Refusal.Empty e) λ _.
+    unless (flag_kept x before v) (Refusal.Flag e) λ _.
     Check.Passed
 
 -- the first faulty record among the first n
-unfoldable pub firstFault : Recording → ℕ → Check
-firstFault E zero = Check.Passed
-firstFault E (suc n) = and_then (firstFault E n) λ _. recordCheck E.counts E.levels (take n E.events) (event E n)
+unfoldable pub first_fault : Recording → ℕ → Check
+first_fault E zero = Check.Passed
+first_fault E (suc n) = and_then (first_fault E n) λ _. record_check E.counts E.levels (take n E.events) (event E n)
 
 -- an acceptable recording
 unfoldable pub Accepted : Recording → Type 0
-Accepted E = firstFault E (size E) ≡ Check.Passed
+Accepted E = first_fault E (size E) ≡ Check.Passed

@@ -5,83 +5,83 @@ use Prim.Native.String.{String}
 use Rattle.model.specs.declared.Event.{Event}
 use Rattle.model.specs.declared.Refusal.{Refusal}
 use Rattle.model.specs.declared.Check.{Check}
-use Rattle.model.specs.Refusals.{number_of, recordOf}
-use Rattle.model.specs.Recording.{Recording, size, tasks, eventIn}
-use Rattle.model.specs.File.{recordingOf}
-use Rattle.model.specs.Passes.{run, budgetOf}
+use Rattle.model.specs.Refusals.{number_of, record_of}
+use Rattle.model.specs.Recording.{Recording, size, tasks, event_in}
+use Rattle.model.specs.File.{recording_of}
+use Rattle.model.specs.Passes.{run, budget_of}
 use Rattle.model.specs.Pairs.{Entry, listed}
-use Rattle.model.specs.Analysing.{analysisCheck, workAfterAnalysing, listAfterAnalysing}
+use Rattle.model.specs.Analysing.{analysis_check, work_after_analysing, list_after_analysing}
 use Rattle.model.specs.Text.{bytes, decimal}
 
 -- a word and a number
 unfoldable pub field : String → ℕ → List ℕ
 field word n = bytes word ++ decimal n
 
-abbrev pub settledWord : Bool → List ℕ
-settledWord true = bytes "yes"
-settledWord false = bytes "no"
+abbrev pub settled_word : Bool → List ℕ
+settled_word true = bytes "yes"
+settled_word false = bytes "no"
 
 -- the first line: N, T, passes made, settled, and pairs
-unfoldable pub resultLine : ℕ → ℕ → ℕ → Bool → ℕ → List ℕ
-resultLine n t passes settled pairs =
-    field "events " n ++ field " tasks " t ++ field " passes " passes ++ bytes " settled " ++ settledWord settled ++ field " pairs " pairs ++ bytes "\n"
+unfoldable pub result_line : ℕ → ℕ → ℕ → Bool → ℕ → List ℕ
+result_line n t passes settled pairs =
+    field "events " n ++ field " tasks " t ++ field " passes " passes ++ bytes " settled " ++ settled_word settled ++ field " pairs " pairs ++ bytes "\n"
 
 -- a mark: 1 is sure, else open
-abbrev pub markWord : Bool → List ℕ
-markWord true = bytes "sure"
-markWord false = bytes "open"
+abbrev pub mark_word : Bool → List ℕ
+mark_word true = bytes "sure"
+mark_word false = bytes "open"
 
 -- the line of an entry: cell, the event of the lower task, that of the higher task, mark
-unfoldable pub entryLine : ℕ → ℕ → ℕ → ℕ → List ℕ
-entryLine cell a b m = field "cell " cell ++ field " " a ++ field " " b ++ bytes " " ++ markWord (eqb m 1) ++ bytes "\n"
+unfoldable pub entry_line : ℕ → ℕ → ℕ → ℕ → List ℕ
+entry_line cell a b m = field "cell " cell ++ field " " a ++ field " " b ++ bytes " " ++ mark_word (eqb m 1) ++ bytes "\n"
 
 -- the line of an entry in a recording
-unfoldable pub entryText : List Event → Entry → List ℕ
-entryText l p = entryLine (eventIn l p.first).object p.first p.second p.mark
+unfoldable pub entry_text : List Event → Entry → List ℕ
+entry_text l p = entry_line (event_in l p.first).object p.first p.second p.mark
 
 -- one line for each entry
-unfoldable pub entriesText : List Event → List Entry → List ℕ
-entriesText l [] = []
-entriesText l (p ∷ es) = entryText l p ++ entriesText l es
+unfoldable pub entries_text : List Event → List Entry → List ℕ
+entries_text l [] = []
+entries_text l (p ∷ es) = entry_text l p ++ entries_text l es
 
 -- the line of a refusal: number, then record
-unfoldable pub refusalLine : Refusal → List ℕ
-refusalLine r = field "refused " (number_of r) ++ field " " (recordOf r) ++ bytes "\n"
+unfoldable pub refusal_line : Refusal → List ℕ
+refusal_line r = field "refused " (number_of r) ++ field " " (record_of r) ++ bytes "\n"
 
 -- the report of an analysis with a budget
-unfoldable pub resultText : Recording → ℕ → List ℕ
-resultText E budget =
-    resultLine (size E) (tasks E) (run E budget).passes (run E budget).settled (length (listed E budget)) ++ entriesText E.events (listed E budget)
+unfoldable pub result_text : Recording → ℕ → List ℕ
+result_text E budget =
+    result_line (size E) (tasks E) (run E budget).passes (run E budget).settled (length (listed E budget)) ++ entries_text E.events (listed E budget)
 
 -- of a recording that passes, the result; else the refusal
-abbrev pub reportBy : Recording → ℕ → Check → List ℕ
-reportBy E budget Check.Passed = resultText E budget
-reportBy E budget (Check.Failed r) = refusalLine r
+abbrev pub report_by : Recording → ℕ → Check → List ℕ
+report_by E budget Check.Passed = result_text E budget
+report_by E budget (Check.Failed r) = refusal_line r
 
 -- the program reads files of at most so many bytes
-abbrev pub mostBytes : ℕ
-mostBytes = 16384
+abbrev pub most_bytes : ℕ
+most_bytes = 16384
 
 -- a longer file is too long, and then nothing else is computed
-abbrev pub ifLong : {A : Type 0} → Bool → A → (Unit {0} → A) → A
-ifLong true long rest = long
-ifLong false long rest = rest tt
+abbrev pub if_long : {A : Type 0} → Bool → A → (Unit {0} → A) → A
+if_long true long rest = long
+if_long false long rest = rest tt
 
-unfoldable pub isLong : List ℕ → Bool
-isLong f = ltb mostBytes (length f)
+unfoldable pub is_long : List ℕ → Bool
+is_long f = ltb most_bytes (length f)
 
 -- what the program prints of a file, with these work numbers and this list lent
-unfoldable pub reportOf : List ℕ → List ℕ → List ℕ → List ℕ
-reportOf f work list =
-    ifLong (isLong f) (bytes "too long\n") λ _.
-    let E = recordingOf f in reportBy E (budgetOf E) (analysisCheck f (budgetOf E) work list)
+unfoldable pub report_of : List ℕ → List ℕ → List ℕ → List ℕ
+report_of f work list =
+    if_long (is_long f) (bytes "too long\n") λ _.
+    let E = recording_of f in report_by E (budget_of E) (analysis_check f (budget_of E) work list)
 
 -- what it leaves in them
-unfoldable pub workAfterReporting : List ℕ → List ℕ → List ℕ
-workAfterReporting f work = ifLong (isLong f) work λ _. workAfterAnalysing f (budgetOf (recordingOf f)) work
+unfoldable pub work_after_reporting : List ℕ → List ℕ → List ℕ
+work_after_reporting f work = if_long (is_long f) work λ _. work_after_analysing f (budget_of (recording_of f)) work
 
-unfoldable pub listAfterReporting : List ℕ → List ℕ → List ℕ → List ℕ
-listAfterReporting f work list = ifLong (isLong f) list λ _. listAfterAnalysing f (budgetOf (recordingOf f)) work list
+unfoldable pub list_after_reporting : List ℕ → List ℕ → List ℕ → List ℕ
+list_after_reporting f work list = if_long (is_long f) list λ _. list_after_analysing f (budget_of (recording_of f)) work list
 
 -- ---- the report in a lent output: what does not fit is left off, and what it does not reach is kept
 

@@ -5,8 +5,8 @@ use Rattle.model.specs.declared.Counts.{Counts}
 use Rattle.model.specs.declared.Trailer.{Trailer}
 use Rattle.model.specs.declared.Reading.{Reading}
 use Rattle.model.specs.declared.Written.{Written}
-use Rattle.model.specs.Reading.{fileCheck, reading_of, recordsOf, startsOf, postsOf}
-use Rattle.model.specs.Writing.{levelsFit, fileOf, recordsCheck, written_of, outAfterWriting}
+use Rattle.model.specs.Reading.{file_check, reading_of, records_of, starts_of, posts_of}
+use Rattle.model.specs.Writing.{levels_fit, file_of, records_check, written_of, out_after_writing}
 
 -- every number of the list is a byte
 abbrev pub Bytes : List ℕ → Type 0
@@ -23,15 +23,15 @@ pub record Fits (s : List ℕ) (c : Counts) : Type 0 where
 -- proved as `round_trip` in proofs/RoundTrip.antt
 pub record RoundTrip : Type 0 where
   -- what writing leaves, and that reading it gives the same records, counts, edition, start bytes and post bytes
-  pub read-written : (s : List ℕ) (c : Counts) (b p out : List ℕ) (n : ℕ) → written_of s c b p out ≡ Written.Length n
-      → (n ≡ length (fileOf s c (b ++ p))) × (outAfterWriting s c b p out ≡ fileOf s c (b ++ p) ++ drop n out)
-      × (reading_of (fileOf s c (b ++ p)) ≡ Reading.Accepted (record { start = 0; records = length s / 4; counts = c }))
-      × (recordsOf (fileOf s c (b ++ p)) ≡ s) × (startsOf (fileOf s c (b ++ p)) ≡ b) × (postsOf (fileOf s c (b ++ p)) ≡ p)
+  pub read_written : (s : List ℕ) (c : Counts) (b p out : List ℕ) (n : ℕ) → written_of s c b p out ≡ Written.Length n
+      → (n ≡ length (file_of s c (b ++ p))) × (out_after_writing s c b p out ≡ file_of s c (b ++ p) ++ drop n out)
+      × (reading_of (file_of s c (b ++ p)) ≡ Reading.Accepted (record { start = 0; records = length s / 4; counts = c }))
+      × (records_of (file_of s c (b ++ p)) ≡ s) × (starts_of (file_of s c (b ++ p)) ≡ b) × (posts_of (file_of s c (b ++ p)) ≡ p)
   -- rewriting an accepted file with start 0 gives its bytes
   pub write_read : (f : List ℕ) → Bytes f → (h : Trailer) → reading_of f ≡ Reading.Accepted h → h.start ≡ 0 → (out : List ℕ) → length f ≤ length out
-      → (written_of (recordsOf f) h.counts (startsOf f) (postsOf f) out ≡ Written.Length (length f))
-      × (outAfterWriting (recordsOf f) h.counts (startsOf f) (postsOf f) out ≡ f ++ drop (length f) out)
+      → (written_of (records_of f) h.counts (starts_of f) (posts_of f) out ≡ Written.Length (length f))
+      × (out_after_writing (records_of f) h.counts (starts_of f) (posts_of f) out ≡ f ++ drop (length f) out)
   -- with as many start bytes and post bytes as the edition takes, writing refuses by 2 to 8 and 16 exactly what reading the file that
   -- it would have written refuses
-  pub same-refusals : (s : List ℕ) (c : Counts) (b p : List ℕ) → levelsFit c b p ≡ true → Fits s c
-      → fileCheck (fileOf s c (b ++ p)) ≡ recordsCheck s c b p
+  pub same_refusals : (s : List ℕ) (c : Counts) (b p : List ℕ) → levels_fit c b p ≡ true → Fits s c
+      → file_check (file_of s c (b ++ p)) ≡ records_check s c b p

@@ -14,10 +14,10 @@ abbrev pub digit : ℕ → ℕ
 digit d = 48 + d
 
 -- a number of at most k decimal digits, with no zero in front
-unfoldable pub decimalIn : ℕ → ℕ → List ℕ
-decimalIn zero n = []
-decimalIn (suc k) n = cond (ltb n 10) (digit n ∷ []) (decimalIn k (n / 10) ++ (digit (n % 10) ∷ []))
+unfoldable pub decimal_in : ℕ → ℕ → List ℕ
+decimal_in zero n = []
+decimal_in (suc k) n = cond (ltb n 10) (digit n ∷ []) (decimal_in k (n / 10) ++ (digit (n % 10) ∷ []))
 
 -- a number in decimal: one below 2 ^ 64 has at most 20 digits
 abbrev pub decimal : ℕ → List ℕ
-decimal n = decimalIn 20 n
+decimal n = decimal_in 20 n

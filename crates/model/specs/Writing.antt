@@ -8,69 +8,69 @@ use Rattle.model.specs.declared.Check.{Check}
 use Rattle.model.specs.declared.Written.{Written}
 use Rattle.model.specs.Numbers.{flat_map}
 use Rattle.model.specs.Refusals.{unless, and_then, after}
-use Rattle.model.specs.Recording.{size, flags_of, firstFault}
-use Rattle.model.specs.File.{startCount, recordingBy}
-use Rattle.model.specs.Reading.{knownEdition, in_range, postsUp}
+use Rattle.model.specs.Recording.{size, flags_of, first_fault}
+use Rattle.model.specs.File.{start_count, recording_by}
+use Rattle.model.specs.Reading.{known_edition, in_range, posts_up}
 
 -- a number as two bytes, and as four
-abbrev pub u16Bytes : ℕ → List ℕ
-u16Bytes n = n % 256 ∷ n / 256 % 256 ∷ []
+abbrev pub u16_bytes : ℕ → List ℕ
+u16_bytes n = n % 256 ∷ n / 256 % 256 ∷ []
 
-abbrev pub u32Bytes : ℕ → List ℕ
-u32Bytes n = u16Bytes (n % 65536) ++ u16Bytes (n / 65536)
+abbrev pub u32_bytes : ℕ → List ℕ
+u32_bytes n = u16_bytes (n % 65536) ++ u16_bytes (n / 65536)
 
 -- the trailer of a file with start 0
-unfoldable pub trailerBytes : ℕ → Counts → List ℕ
-trailerBytes n c =
-    u32Bytes 0 ++ u32Bytes n ++ u16Bytes c.tasks ++ u16Bytes c.semaphores ++ u16Bytes c.cells ++ u16Bytes c.edition
+unfoldable pub trailer_bytes : ℕ → Counts → List ℕ
+trailer_bytes n c =
+    u32_bytes 0 ++ u32_bytes n ++ u16_bytes c.tasks ++ u16_bytes c.semaphores ++ u16_bytes c.cells ++ u16_bytes c.edition
 
 -- the file: records, level bytes, trailer
-unfoldable pub fileOf : List ℕ → Counts → List ℕ → List ℕ
-fileOf s c b = s ++ b ++ trailerBytes (length s / 4) c
+unfoldable pub file_of : List ℕ → Counts → List ℕ → List ℕ
+file_of s c b = s ++ b ++ trailer_bytes (length s / 4) c
 
 -- its length
-abbrev pub fileLength : List ℕ → List ℕ → ℕ
-fileLength s b = length s + length b + 16
+abbrev pub file_length : List ℕ → List ℕ → ℕ
+file_length s b = length s + length b + 16
 
 -- ---- records picked from others
 
 -- the four bytes of record e
-abbrev pub recordAt : List ℕ → ℕ → List ℕ
-recordAt s e = get_or s (4 * e) 0 ∷ get_or s (4 * e + 1) 0 ∷ get_or s (4 * e + 2) 0 ∷ get_or s (4 * e + 3) 0 ∷ []
+abbrev pub record_at : List ℕ → ℕ → List ℕ
+record_at s e = get_or s (4 * e) 0 ∷ get_or s (4 * e + 1) 0 ∷ get_or s (4 * e + 2) 0 ∷ get_or s (4 * e + 3) 0 ∷ []
 
 -- of these record bytes the records that o names, in its order
-unfoldable pub recordsIn : List ℕ → List ℕ → List ℕ
-recordsIn s o = flat_map (recordAt s) o
+unfoldable pub records_in : List ℕ → List ℕ → List ℕ
+records_in s o = flat_map (record_at s) o
 
 -- the file of these
-abbrev pub fileIn : List ℕ → List ℕ → Counts → List ℕ → List ℕ
-fileIn s o c b = fileOf (recordsIn s o) c b
+abbrev pub file_in : List ℕ → List ℕ → Counts → List ℕ → List ℕ
+file_in s o c b = file_of (records_in s o) c b
 
 -- ---- writing
 
 -- the start bytes and the post bytes are as many as the edition takes
-unfoldable pub levelsFit : Counts → List ℕ → List ℕ → Bool
-levelsFit c b p = eqb (length b) (startCount c) && eqb (length p) (flags_of c)
+unfoldable pub levels_fit : Counts → List ℕ → List ℕ → Bool
+levels_fit c b p = eqb (length b) (start_count c) && eqb (length p) (flags_of c)
 
 -- the checks of the counts and of the lent bytes: 2, 3, 4, 13
-unfoldable pub lentCheck : List ℕ → Counts → List ℕ → List ℕ → Check
-lentCheck s c b p =
-    unless (knownEdition c) Refusal.Edition λ _.
+unfoldable pub lent_check : List ℕ → Counts → List ℕ → List ℕ → Check
+lent_check s c b p =
+    unless (known_edition c) Refusal.Edition λ _.
     unless (eqb (length s % 4) 0) Refusal.Extent λ _.
     unless (in_range c (length s / 4)) Refusal.Count λ _.
-    unless (postsUp p) Refusal.Count λ _.
-    unless (levelsFit c b p) Refusal.Starts λ _.
+    unless (posts_up p) Refusal.Count λ _.
+    unless (levels_fit c b p) Refusal.Starts λ _.
     Check.Passed
 
 -- the checks of what the file would hold: these, then the first faulty record by 5 to 8 and 16
-unfoldable pub recordsCheck : List ℕ → Counts → List ℕ → List ℕ → Check
-recordsCheck s c b p = and_then (lentCheck s c b p) λ _. let E = recordingBy s c (b ++ p) in firstFault E (size E)
+unfoldable pub records_check : List ℕ → Counts → List ℕ → List ℕ → Check
+records_check s c b p = and_then (lent_check s c b p) λ _. let E = recording_by s c (b ++ p) in first_fault E (size E)
 
 -- then 12
-unfoldable pub writingCheck : List ℕ → Counts → List ℕ → List ℕ → List ℕ → Check
-writingCheck s c b p out =
-    and_then (recordsCheck s c b p) λ _.
-    unless (leb (fileLength s (b ++ p)) (length out)) Refusal.Out λ _.
+unfoldable pub writing_check : List ℕ → Counts → List ℕ → List ℕ → List ℕ → Check
+writing_check s c b p out =
+    and_then (records_check s c b p) λ _.
+    unless (leb (file_length s (b ++ p)) (length out)) Refusal.Out λ _.
     Check.Passed
 
 abbrev pub written_by : ℕ → Check → Written
@@ -79,8 +79,8 @@ written_by n (Check.Failed r) = Written.Refused r
 
 -- what writing answers
 unfoldable pub written_of : List ℕ → Counts → List ℕ → List ℕ → List ℕ → Written
-written_of s c b p out = written_by (fileLength s (b ++ p)) (writingCheck s c b p out)
+written_of s c b p out = written_by (file_length s (b ++ p)) (writing_check s c b p out)
 
 -- the output after writing: the file, and beyond it what was there
-unfoldable pub outAfterWriting : List ℕ → Counts → List ℕ → List ℕ → List ℕ → List ℕ
-outAfterWriting s c b p out = after (writingCheck s c b p out) (λ _. fileOf s c (b ++ p) ++ drop (fileLength s (b ++ p)) out) out
+unfoldable pub out_after_writing : List ℕ → Counts → List ℕ → List ℕ → List ℕ → List ℕ
+out_after_writing s c b p out = after (writing_check s c b p out) (λ _. file_of s c (b ++ p) ++ drop (file_length s (b ++ p)) out) out

@@ -1,8 +1,8 @@
 // The plain types of the trace analyser, and the numbers that stand for its refusals and answers.
 // What a recording means, what analysing answers and what is promised is defined in specs/.
 ghost use Rattle.std.specs.Prelude.{◌≡◌};
-ghost use Rattle.model.specs.Refusals.{atRecord, alone, detailsOf, number_of, recordOf, pairsOf, differingTask, differingPosition};
-ghost use Rattle.model.specs.Question.{relationNumber};
+ghost use Rattle.model.specs.Refusals.{at_record, alone, details_of, number_of, record_of, pairs_of, differing_task, differing_position};
+ghost use Rattle.model.specs.Question.{relation_number};
 
 // The kinds of records.
 pub const SIGNAL: u8 = 1;
@@ -194,7 +194,7 @@ struct Details {
 
 // A refusal by this number, the fault of a record.
 fn at_record(number: u8, fault: usize) -> Details
-    ensures { result ≡ atRecord number fault }
+    ensures { result ≡ at_record number fault }
 {
     Details {
         number,
@@ -215,7 +215,7 @@ fn alone(number: u8) -> Details
 impl Refusal {
     // The table: what each refusal tells.
     fn details(self) -> Details
-        ensures { result ≡ detailsOf self }
+        ensures { result ≡ details_of self }
     {
         match self {
             Refusal::Short => alone(1),
@@ -259,28 +259,28 @@ impl Refusal {
 
     // The faulty record; 0 where no record is at fault.
     pub fn record(self) -> usize
-        ensures { result ≡ recordOf self }
+        ensures { result ≡ record_of self }
     {
         self.details().fault
     }
 
     // The pairs that a list should have held; 0 for another refusal.
     pub fn pairs(self) -> usize
-        ensures { result ≡ pairsOf self }
+        ensures { result ≡ pairs_of self }
     {
         self.details().pairs
     }
 
     // The task at which two recordings differ; 0 for another refusal.
     pub fn task(self) -> u16
-        ensures { result ≡ differingTask self }
+        ensures { result ≡ differing_task self }
     {
         self.details().task
     }
 
     // The position in that task; 0 for another refusal.
     pub fn position(self) -> u16
-        ensures { result ≡ differingPosition self }
+        ensures { result ≡ differing_position self }
     {
         self.details().position
     }
@@ -289,7 +289,7 @@ impl Refusal {
 impl Relation {
     // The number of the answer: 1 a first, 2 b first, 3 open, 4 sure.
     pub fn number(self) -> u8
-        ensures { result ≡ relationNumber self }
+        ensures { result ≡ relation_number self }
     {
         match self {
             Relation::First => 1,

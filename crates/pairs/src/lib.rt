@@ -1,12 +1,12 @@
 // Conflicts, race pairs and their marks, and the list, over record bytes and lent vectors.
 ghost use Rattle.std.specs.Prelude.{◌≡◌, [], ◌∷◌, ◌+◌, ◌*◌, ◌≤◌, ◌<◌, length};
 ghost use Rattle.std.proofs.lemmas.List.Edits.{sets};
-ghost use Rattle.model.specs.File.{recordingBy, eventsOf};
+ghost use Rattle.model.specs.File.{recording_by, events_of};
 ghost use Rattle.model.specs.Vectors.{unordered};
-ghost use Rattle.model.specs.Pairs.{conflict, racePair, mark, pair_at, cellEntries, entriesIn, entries};
-ghost use Rattle.model.specs.Question.{relationBy};
-ghost use Rattle.model.specs.Reading.{mostCells};
-ghost use Rattle.passes.specs.Lent.{vectorsIn, Fitting, Numbered, Placed};
+ghost use Rattle.model.specs.Pairs.{conflict, race_pair, mark, pair_at, cell_entries, entries_in, entries};
+ghost use Rattle.model.specs.Question.{relation_by};
+ghost use Rattle.model.specs.Reading.{most_cells};
+ghost use Rattle.passes.specs.Lent.{vectors_in, Fitting, Numbered, Placed};
 ghost use Rattle.events.specs.Chains.{Along};
 ghost use Rattle.pairs.specs.Chains.{Linked, InChain};
 ghost use Rattle.pairs.specs.Lent.{over, row_of, HowMany, Lent, Stored, Width, WrittenList};
@@ -37,7 +37,7 @@ pub fn unordered(
 ) -> bool
     requires placed { Placed records.now counts positions.now × Fitting records.now counts v.now }
     requires numbered { Numbered records.now a × Numbered records.now b }
-    ensures { result ≡ unordered (eventsOf records.now) (vectorsIn records.now counts v.now) a b }
+    ensures { result ≡ unordered (events_of records.now) (vectors_in records.now counts v.now) a b }
 {
     !passes::ordered(records, counts, positions, v, a, b)
         & !passes::ordered(records, counts, positions, v, b, a)
@@ -54,7 +54,7 @@ fn race_pair(
 ) -> bool
     requires placed { Placed records.now counts positions.now × Fitting records.now counts safe.now }
     requires numbered { Numbered records.now a × Numbered records.now b }
-    ensures { result ≡ racePair (recordingBy records.now counts []) (vectorsIn records.now counts safe.now) a b }
+    ensures { result ≡ race_pair (recording_by records.now counts []) (vectors_in records.now counts safe.now) a b }
 {
     let v = events::event_at(records, a);
     let w = events::event_at(records, b);
@@ -75,7 +75,7 @@ pub fn mark(
 ) -> u16
     requires placed { Placed records.now counts positions.now × Fitting records.now counts recorded.now }
     requires numbered { Numbered records.now a × Numbered records.now b }
-    ensures { result ≡ mark (recordingBy records.now counts []) (vectorsIn records.now counts recorded.now) a b }
+    ensures { result ≡ mark (recording_by records.now counts []) (vectors_in records.now counts recorded.now) a b }
 {
     if unordered(records, counts, positions, recorded, a, b) {
         1
@@ -142,8 +142,8 @@ fn count_cell(
     cell: u16,
 ) -> usize
     requires placed { Placed records.now counts positions.now × Fitting records.now counts safe.now }
-    requires linked { Linked records.now order.now counts.cells chain.now × (cell < counts.cells) × (counts.cells ≤ mostCells) }
-    ensures { HowMany (λ E X R. cellEntries E X R order.now cell) records.now counts safe.now result }
+    requires linked { Linked records.now order.now counts.cells chain.now × (cell < counts.cells) × (counts.cells ≤ most_cells) }
+    ensures { HowMany (λ E X R. cell_entries E X R order.now cell) records.now counts safe.now result }
 {
     let n = order.len();
     let mut pairs: usize = 0;
@@ -165,8 +165,8 @@ fn count(
     safe: &[u16],
 ) -> usize
     requires placed { Placed records.now counts positions.now × Fitting records.now counts safe.now }
-    requires linked { Linked records.now order.now counts.cells chain.now × (counts.cells ≤ mostCells) }
-    ensures { HowMany (λ E X R. entriesIn E X R order.now) records.now counts safe.now result }
+    requires linked { Linked records.now order.now counts.cells chain.now × (counts.cells ≤ most_cells) }
+    ensures { HowMany (λ E X R. entries_in E X R order.now) records.now counts safe.now result }
 {
     let cells = counts.cells;
     let mut pairs: usize = 0;
@@ -256,8 +256,8 @@ fn list_cell(
     p: usize,
 ) -> usize
     requires lent { Lent records.now counts positions.now safe.now recorded.now × Linked records.now order.now counts.cells chain.now × (cell < counts.cells) }
-    requires cell_in_bounds { p + 3 * length (over cellEntries records.now counts safe.now recorded.now order.now cell) ≤ length out.old }
-    ensures { Stored out.old p (over cellEntries records.now counts safe.now recorded.now order.now cell) out.new result }
+    requires cell_in_bounds { p + 3 * length (over cell_entries records.now counts safe.now recorded.now order.now cell) ≤ length out.old }
+    ensures { Stored out.old p (over cell_entries records.now counts safe.now recorded.now order.now cell) out.new result }
 {
     let n = order.len();
     let mut next = p;
@@ -284,8 +284,8 @@ fn list_all(
     p: usize,
 ) -> usize
     requires lent { Lent records.now counts positions.now safe.now recorded.now × Linked records.now order.now counts.cells chain.now }
-    requires order_in_bounds { p + 3 * length (over entriesIn records.now counts safe.now recorded.now order.now) ≤ length out.old }
-    ensures { Stored out.old p (over entriesIn records.now counts safe.now recorded.now order.now) out.new result }
+    requires order_in_bounds { p + 3 * length (over entries_in records.now counts safe.now recorded.now order.now) ≤ length out.old }
+    ensures { Stored out.old p (over entries_in records.now counts safe.now recorded.now order.now) out.new result }
 {
     let cells = counts.cells;
     let mut next = p;
@@ -320,7 +320,7 @@ fn list_chained(
     out: &mut [u16],
 ) -> Listed
     requires { Lent records.now counts positions.now safe.now recorded.now × Linked records.now order.now counts.cells chain.now × Width width }
-    ensures { WrittenList width (over entriesIn records.now counts safe.now recorded.now order.now) out.old out.new result.fits result.pairs }
+    ensures { WrittenList width (over entries_in records.now counts safe.now recorded.now order.now) out.old out.new result.fits result.pairs }
 {
     let pairs = count(records, counts, positions, order, chain, safe);
     if out.len() < width * pairs {
@@ -345,7 +345,7 @@ fn list_in(
     out: &mut [u16],
 ) -> Listed
     requires { Lent records.now counts positions.now safe.now recorded.now × Along records.now order.now × Width width }
-    ensures { WrittenList width (over entriesIn records.now counts safe.now recorded.now order.now) out.old out.new result.fits result.pairs }
+    ensures { WrittenList width (over entries_in records.now counts safe.now recorded.now order.now) out.old out.new result.fits result.pairs }
 {
     let chain = events::gather_in(records, order, counts.cells);
     list_chained(
@@ -393,7 +393,7 @@ pub fn relation(
 ) -> Relation
     requires placed { Placed records.now counts positions.now × Fitting records.now counts safe.now × Fitting records.now counts recorded.now }
     requires numbered { Numbered records.now a × Numbered records.now b }
-    ensures { result ≡ over relationBy records.now counts safe.now recorded.now a b }
+    ensures { result ≡ over relation_by records.now counts safe.now recorded.now a b }
 {
     if passes::ordered(records, counts, positions, safe, a, b) {
         return Relation::First;

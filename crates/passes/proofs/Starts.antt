@@ -10,15 +10,15 @@ use lib.Seq.{sets}
 use Rattle.model.specs.Numbers.{list_from}
 use Rattle.model.specs.Recording.{Recording, size, tasks, task_of}
 use Rattle.model.specs.Vectors.{position, flat, start}
-use Rattle.model.proofs.Climb.{start-shaped}
+use Rattle.model.proofs.Climb.{start_shaped}
 use Rattle.vectors.specs.Rows.{own_row}
-use Rattle.vectors.proofs.Chunks.{own-length, flat-length}
-use Rattle.model.proofs.Stores.{sets-append, sets-front}
-use Rattle.passes.specs.Steps.{firstRow}
+use Rattle.vectors.proofs.Chunks.{own_length, flat_length}
+use Rattle.model.proofs.Stores.{sets-append, sets_front}
+use Rattle.passes.specs.Steps.{first_row}
 
 -- the rows of event e and of all that follow
 pub rows_from : Recording → ℕ → List ℕ
-rows_from E e = flat (list_from (firstRow E.counts E.events) e (size E - e))
+rows_from E e = flat (list_from (first_row E.counts E.events) e (size E - e))
 
 pub rows_start : (E : Recording) → rows_from E 0 ≡ flat (start E)
 unfolding rows_from start own_row
@@ -26,7 +26,7 @@ rows_start E =
     let k : size E - 0 ≡ size E = omega arith in
     rw k
 
-rows_next : (E : Recording) (e : ℕ) → e < size E → rows_from E e ≡ firstRow E.counts E.events e ++ rows_from E (e + 1)
+rows_next : (E : Recording) (e : ℕ) → e < size E → rows_from E e ≡ first_row E.counts E.events e ++ rows_from E (e + 1)
 unfolding rows_from list_from flat
 rows_next E e h =
     let k : size E - e ≡ suc (size E - suc e) = omega arith in
@@ -38,24 +38,24 @@ rows_end E e h =
     let k : size E - e ≡ 0 = omega arith in
     rw k
 
-pub start-length : (E : Recording) → length (flat (start E)) ≡ size E * tasks E
-start-length E = flat-length (size E) (tasks E) (start E) (start-shaped E)
+pub start_length : (E : Recording) → length (flat (start E)) ≡ size E * tasks E
+start_length E = flat_length (size E) (tasks E) (start E) (start_shaped E)
 
 pub row_fits : (E : Recording) (e : ℕ) → e < size E → tasks E ≤ length (rows_from E e)
-row_fits E e h = rw (rows_next E e h) (omega (arith, length-append (firstRow E.counts E.events e) (rows_from E (e + 1)), own-length (tasks E) (task_of E e) (position E.events e)))
+row_fits E e h = rw (rows_next E e h) (omega (arith, length-append (first_row E.counts E.events e) (rows_from E (e + 1)), own_length (tasks E) (task_of E e) (position E.events e)))
 
 -- one row is stored, and the later ones over it are the whole from e on
-pub row-stored : (E : Recording) (e : ℕ) → e < size E → (v v' : List ℕ) (at : ℕ) → v' ≡ sets v at (firstRow E.counts E.events e)
+pub row_stored : (E : Recording) (e : ℕ) → e < size E → (v v' : List ℕ) (at : ℕ) → v' ≡ sets v at (first_row E.counts E.events e)
     → (sets v' (at + tasks E) (rows_from E (e + 1)) ≡ sets v at (rows_from E e)) × (at + tasks E + length (rows_from E (e + 1)) ≡ at + length (rows_from E e))
-row-stored E e h v v' at q =
-    let k : length (firstRow E.counts E.events e) ≡ tasks E = own-length (tasks E) (task_of E e) (position E.events e) in (
-      rw (rows_next E e h, q) (rw k at (sym (sets-append (firstRow E.counts E.events e) (rows_from E (e + 1)) v at))),
-      rw (rows_next E e h) (omega (arith, length-append (firstRow E.counts E.events e) (rows_from E (e + 1)))),
+row_stored E e h v v' at q =
+    let k : length (first_row E.counts E.events e) ≡ tasks E = own_length (tasks E) (task_of E e) (position E.events e) in (
+      rw (rows_next E e h, q) (rw k at (sym (sets-append (first_row E.counts E.events e) (rows_from E (e + 1)) v at))),
+      rw (rows_next E e h) (omega (arith, length-append (first_row E.counts E.events e) (rows_from E (e + 1)))),
     )
 
 -- all are stored
-pub start-stored : (E : Recording) (v : List ℕ) → length v ≡ size E * tasks E → sets v 0 (flat (start E)) ≡ flat (start E)
-start-stored E v h =
-    sets-front v (flat (start E)) (size E * tasks E) (start-length E) (omega arith)
+pub start_stored : (E : Recording) (v : List ℕ) → length v ≡ size E * tasks E → sets v 0 (flat (start E)) ≡ flat (start E)
+start_stored E v h =
+    sets_front v (flat (start E)) (size E * tasks E) (start_length E) (omega arith)
     ∙ ap (λ (l : List ℕ). flat (start E) ++ l) (drop_of_length-le v {i = size E * tasks E} (omega arith))
     ∙ append-nil (flat (start E))

@@ -7,7 +7,7 @@ use mathlib.Core.List.{List}
 use native.Mathlib.Omega.{arith}
 use lib.ListN.{length}
 use Rattle.model.specs.declared.Event.{Event}
-use Rattle.model.specs.Vectors.{Vectors, atOrBefore, ordered}
+use Rattle.model.specs.Vectors.{Vectors, at_or_before, ordered}
 use Rattle.model.proofs.Tests.{eq-eqb, ne_eqb}
 use Rattle.vectors.proofs.Chunks.{next_row}
 
@@ -16,14 +16,14 @@ pub in_rows : (v : List ℕ) (n m e t : ℕ) → length v ≡ n * m → e < n �
 in_rows v n m e t h p q = omega (arith, next_row e n m p)
 
 module _ (l : List Event) (X : Vectors) (a b : ℕ) where
-  pub ordered-self : a ≡ b → false ≡ ordered l X a b
+  pub ordered_self : a ≡ b → false ≡ ordered l X a b
   unfolding ordered
-  ordered-self h = rw (eq-eqb a b h)
+  ordered_self h = rw (eq-eqb a b h)
 
-  pub ordered-other : (a ≡ b → ⊥) → {r : Bool} → r ≡ atOrBefore l X a b → r ≡ ordered l X a b
+  pub ordered_other : (a ≡ b → ⊥) → {r : Bool} → r ≡ at_or_before l X a b → r ≡ ordered l X a b
   unfolding ordered
-  ordered-other h q = q ∙ rw (ne_eqb a b h)
+  ordered_other h q = q ∙ rw (ne_eqb a b h)
 
 -- where the test that comes first passes, the one behind it decides
-pub and-passed : (p q x : Bool) → p ≡ true → x ≡ q → x ≡ (p && q)
-and-passed p q x t e = rw (t, e)
+pub and_passed : (p q x : Bool) → p ≡ true → x ≡ q → x ≡ (p && q)
+and_passed p q x t e = rw (t, e)

@@ -8,39 +8,39 @@ use native.Mathlib.Numerals.{add-one}
 use native.Mathlib.Omega.{arith}
 use lib.ListN.{length, get_or, set, drop, length-set, length-append}
 use lib.Seq.{set_at, set-set, drop-cons}
-use Rattle.model.specs.Numbers.{tally, filter, each, picked, kthLeast}
+use Rattle.model.specs.Numbers.{tally, filter, each, picked, kth_least}
 use Rattle.model.specs.declared.Counts.{Counts}
 use Rattle.model.specs.declared.Event.{Event}
-use Rattle.model.specs.Recording.{start_of, post_of, Recording, size, tasks, event, kind_of, objectOf, isOn, isWait, wait, flagWait}
+use Rattle.model.specs.Recording.{start_of, post_of, Recording, size, tasks, event, kind_of, object_of, is_on, is_wait, wait, flag_wait}
 use Rattle.model.specs.Vectors.{Vectors, number, ordered}
-use Rattle.model.specs.Passes.{eventsOn, k_of, needed, serving, candidates, kthAmong, served, stepOne, raised}
+use Rattle.model.specs.Passes.{events_on, k_of, needed, serving, candidates, kth_among, served, step_one, raised}
 use Rattle.model.proofs.Tests.{cases, eq-eqb, ne_eqb}
-use Rattle.model.proofs.Least.{kth-zero}
-use Rattle.model.proofs.Picked.{count-picked, picked-few, picked-below}
+use Rattle.model.proofs.Least.{kth_zero}
+use Rattle.model.proofs.Picked.{count_picked, picked_few, picked_below}
 use Rattle.model.proofs.Climb.{Shaped}
-use Rattle.vectors.specs.Rows.{chunks, column, raisedAt, raisedTo}
-use Rattle.vectors.proofs.Chunks.{chunks-shaped, column-chunks}
-use Rattle.vectors.proofs.Raised.{raisedTo-alike, raisedTo-none, chunks-raised}
-use Rattle.passes.specs.Steps.{waitBefore, candidate, candidatesOn, waited, stepTwo, raisedEvent}
+use Rattle.vectors.specs.Rows.{chunks, column, raised_at, raised_to}
+use Rattle.vectors.proofs.Chunks.{chunks_shaped, column_chunks}
+use Rattle.vectors.proofs.Raised.{raised_to_alike, raised_to_none, chunks_raised}
+use Rattle.passes.specs.Steps.{wait_before, candidate, candidates_on, waited, step_two, raised_event}
 
 -- ---- numbers picked one after another
 
 module _ (p : ℕ → Bool) where
-  pub picked-start : picked p 0 ≡ []
+  pub picked_start : picked p 0 ≡ []
   unfolding picked each
-  picked-start = refl
+  picked_start = refl
 
-  pub picked-hit : (n : ℕ) → p n ≡ true → picked p (n + 1) ≡ picked p n ++ n ∷ []
+  pub picked_hit : (n : ℕ) → p n ≡ true → picked p (n + 1) ≡ picked p n ++ n ∷ []
   unfolding picked each
-  picked-hit n t = rw (add-one n, each, t)
+  picked_hit n t = rw (add-one n, each, t)
 
-  pub picked-miss : (n : ℕ) → p n ≡ false → picked p (n + 1) ≡ picked p n
+  pub picked_miss : (n : ℕ) → p n ≡ false → picked p (n + 1) ≡ picked p n
   unfolding picked each
-  picked-miss n t = rw (add-one n, each, t) (append-nil (each (λ e. cond (p e) (e ∷ []) []) n))
+  picked_miss n t = rw (add-one n, each, t) (append-nil (each (λ e. cond (p e) (e ∷ []) []) n))
 
 -- a number that passes is stored behind those picked before
-pub pick-one : (l out : List ℕ) (c a : ℕ) → c ≡ length l → c < length out → (set (l ++ drop c out) c a ≡ (l ++ a ∷ []) ++ drop (c + 1) out)
-pick-one l out c a q h = rw (drop-cons out c 0 h, add-one c) (set_at l (get_or out c 0) (drop (suc c) out) a c (sym q) ∙ sym (append_assoc l (a ∷ []) (drop (suc c) out)))
+pub pick_one : (l out : List ℕ) (c a : ℕ) → c ≡ length l → c < length out → (set (l ++ drop c out) c a ≡ (l ++ a ∷ []) ++ drop (c + 1) out)
+pick_one l out c a q h = rw (drop-cons out c 0 h, add-one c) (set_at l (get_or out c 0) (drop (suc c) out) a c (sym q) ∙ sym (append_assoc l (a ∷ []) (drop (suc c) out)))
 
 -- the numbers below a that pass, c of them, stand in front of what was lent
 abbrev pub Picks : (ℕ → Bool) → List ℕ → ℕ → ℕ → List ℕ → Type 0
@@ -48,17 +48,17 @@ Picks p out₀ a c out = (c ≤ a) × (length out ≡ length out₀) × (c ≡ l
 
 -- a is looked at, and none that passes lies between it and b
 module _ (p : ℕ → Bool) (out₀ out : List ℕ) (a b c : ℕ) (i : Picks p out₀ a c out) (l : a + 1 ≤ b) (q : picked p b ≡ picked p (a + 1)) where
-  pub picks-hit : p a ≡ true → c < length out₀ → (out' : List ℕ) (c' : ℕ) → out' ≡ set out c a → c' ≡ c + 1 → Picks p out₀ b c' out'
-  picks-hit t r out' c' u w =
-      rw (u, w, q ∙ picked-hit p a t) (
+  pub picks_hit : p a ≡ true → c < length out₀ → (out' : List ℕ) (c' : ℕ) → out' ≡ set out c a → c' ≡ c + 1 → Picks p out₀ b c' out'
+  picks_hit t r out' c' u w =
+      rw (u, w, q ∙ picked_hit p a t) (
         omega (arith, i.0),
         length-set out c a ∙ i.1,
         omega (arith, i.2, length-append (picked p a) (a ∷ [])),
-        ap (λ (k : List ℕ). set k c a) i.3 ∙ pick-one (picked p a) out₀ c a i.2 r,
+        ap (λ (k : List ℕ). set k c a) i.3 ∙ pick_one (picked p a) out₀ c a i.2 r,
       )
 
-  pub picks-miss : p a ≡ false → (out' : List ℕ) (c' : ℕ) → out' ≡ out → c' ≡ c → Picks p out₀ b c' out'
-  picks-miss t out' c' u w = rw (u, w, q ∙ picked-miss p a t) (omega (arith, i.0), i.1, i.2, i.3)
+  pub picks_miss : p a ≡ false → (out' : List ℕ) (c' : ℕ) → out' ≡ out → c' ≡ c → Picks p out₀ b c' out'
+  picks_miss t out' c' u w = rw (u, w, q ∙ picked_miss p a t) (omega (arith, i.0), i.1, i.2, i.3)
 
 -- ---- as the definitions have it
 
@@ -67,77 +67,77 @@ unfolding filter
 filter-append q [] k = refl
 filter-append q (x ∷ l) k = cases (q x) (λ t. rw (t, filter-append q l k)) (λ t. rw (t, filter-append q l k))
 
-filter-picked : (p q : ℕ → Bool) (n : ℕ) → filter q (picked p n) ≡ picked (λ a. p a && q a) n
+filter_picked : (p q : ℕ → Bool) (n : ℕ) → filter q (picked p n) ≡ picked (λ a. p a && q a) n
 unfolding picked each filter
-filter-picked p q zero = refl
-filter-picked p q (suc n) =
-    filter-append q (picked p n) (cond (p n) (n ∷ []) []) ∙ ap₂ ◌++◌ (filter-picked p q n) (last (p n))
+filter_picked p q zero = refl
+filter_picked p q (suc n) =
+    filter-append q (picked p n) (cond (p n) (n ∷ []) []) ∙ ap₂ ◌++◌ (filter_picked p q n) (last (p n))
   where
     last : (b : Bool) → filter q (cond b (n ∷ []) []) ≡ cond (b && q n) (n ∷ []) []
     last true = refl
     last false = refl
 
 module _ (l : List Event) (X : Vectors) (e kind x : ℕ) where
-  pub candidates-all : (a : ℕ) → a ≡ length l → picked (candidate l X e kind x) a ≡ candidatesOn l X e kind x
-  unfolding candidatesOn
-  candidates-all a q = ap (picked (candidate l X e kind x)) q
+  pub candidates_all : (a : ℕ) → a ≡ length l → picked (candidate l X e kind x) a ≡ candidates_on l X e kind x
+  unfolding candidates_on
+  candidates_all a q = ap (picked (candidate l X e kind x)) q
 
-  pub candidates-few : length (candidatesOn l X e kind x) ≤ length l
-  unfolding candidatesOn
-  candidates-few = picked-few (candidate l X e kind x) (length l)
+  pub candidates_few : length (candidates_on l X e kind x) ≤ length l
+  unfolding candidates_on
+  candidates_few = picked_few (candidate l X e kind x) (length l)
 
-  pub candidates-below : (i : ℕ) → i < length (candidatesOn l X e kind x) → get_or (candidatesOn l X e kind x) i 0 < length l
-  unfolding candidatesOn
-  candidates-below i h = picked-below (candidate l X e kind x) (length l) i h
+  pub candidates_below : (i : ℕ) → i < length (candidates_on l X e kind x) → get_or (candidates_on l X e kind x) i 0 < length l
+  unfolding candidates_on
+  candidates_below i h = picked_below (candidate l X e kind x) (length l) i h
 
 module _ (E : Recording) (X : Vectors) (e : ℕ) where
-  candidates-on : candidatesOn E.events X e (serving (kind_of E e)) (objectOf E e) ≡ candidates E X e
-  unfolding candidatesOn candidates eventsOn
-  candidates-on = sym (filter-picked (λ a. isOn (serving (kind_of E e)) (objectOf E e) (event E a)) (λ s. not (ordered E.events X e s)) (size E))
+  candidates_on_lem : candidates_on E.events X e (serving (kind_of E e)) (object_of E e) ≡ candidates E X e
+  unfolding candidates_on candidates events_on
+  candidates_on_lem = sym (filter_picked (λ a. is_on (serving (kind_of E e)) (object_of E e) (event E a)) (λ s. not (ordered E.events X e s)) (size E))
 
-  pub k-tally : (s : ℕ) → k_of E X e s ≡ suc (tally (waitBefore E.events X e s) (size E)) - start_of E.levels s
-  unfolding eventsOn
-  k-tally s = ap (λ (n : ℕ). suc n - start_of E.levels s) (count-picked (λ a. isWait s (event E a)) (λ w. ordered E.events X w e) (size E))
+  pub k_tally : (s : ℕ) → k_of E X e s ≡ suc (tally (wait_before E.events X e s) (size E)) - start_of E.levels s
+  unfolding events_on
+  k_tally s = ap (λ (n : ℕ). suc n - start_of E.levels s) (count_picked (λ a. is_wait s (event E a)) (λ w. ordered E.events X w e) (size E))
 
   module _ (v : Event) (w : v ≡ event E e) where
     -- a wait of either kind, by the kind that serves it and its k
-    pub wait-raised : (Y : Vectors) (kind k : ℕ) → Y ≡ waited E.counts E.events X e kind v.object k → serving v.kind ≡ kind → k ≡ needed E X e
-        → Y ≡ stepTwo E X e
-    unfolding waited stepTwo raisedTo served
-    wait-raised Y kind k r p q = r ∙ rw (← p, q, w, candidates-on)
+    pub wait_raised : (Y : Vectors) (kind k : ℕ) → Y ≡ waited E.counts E.events X e kind v.object k → serving v.kind ≡ kind → k ≡ needed E X e
+        → Y ≡ step_two E X e
+    unfolding waited step_two raised_to served
+    wait_raised Y kind k r p q = r ∙ rw (← p, q, w, candidates_on_lem)
 
     kind : v.kind ≡ kind_of E e
     kind = ap (λ (u : Event). u.kind) w
 
     -- what each kind needs
-    pub needed-wait : v.kind ≡ wait → k_of E X e v.object ≡ needed E X e
+    pub needed_wait : v.kind ≡ wait → k_of E X e v.object ≡ needed E X e
     unfolding needed
-    needed-wait q = rw (w, eq-eqb (kind_of E e) wait (sym kind ∙ q))
+    needed_wait q = rw (w, eq-eqb (kind_of E e) wait (sym kind ∙ q))
 
-    pub needed-flag : v.kind ≡ flagWait → post_of E.levels v.object ≡ needed E X e
+    pub needed_flag : v.kind ≡ flag_wait → post_of E.levels v.object ≡ needed E X e
     unfolding needed
-    needed-flag q = rw (w, ne_eqb (kind_of E e) wait (λ r. omega (arith, kind)), eq-eqb (kind_of E e) flagWait (sym kind ∙ q))
+    needed_flag q = rw (w, ne_eqb (kind_of E e) wait (λ r. omega (arith, kind)), eq-eqb (kind_of E e) flag_wait (sym kind ∙ q))
 
     -- any other event needs none
-    pub other-kept : Shaped (size E) (tasks E) X → e < size E → (v.kind ≡ wait → ⊥) → (v.kind ≡ flagWait → ⊥) → X ≡ stepTwo E X e
-    unfolding stepTwo served needed kthAmong
-    other-kept s h d f =
-        sym (raisedTo-none e _ s h λ t k.
-        rw (ne_eqb (kind_of E e) wait (λ q. d (kind ∙ q)), ne_eqb (kind_of E e) flagWait (λ q. f (kind ∙ q)), kth-zero (map (λ s. number X s t) (candidates E X e))) zero-le)
+    pub other_kept : Shaped (size E) (tasks E) X → e < size E → (v.kind ≡ wait → ⊥) → (v.kind ≡ flag_wait → ⊥) → X ≡ step_two E X e
+    unfolding step_two served needed kth_among
+    other_kept s h d f =
+        sym (raised_to_none e _ s h λ t k.
+        rw (ne_eqb (kind_of E e) wait (λ q. d (kind ∙ q)), ne_eqb (kind_of E e) flag_wait (λ q. f (kind ∙ q)), kth_zero (map (λ s. number X s t) (candidates E X e))) zero-le)
 
 -- the candidates' numbers in the flat list
-pub chunks-waited : (c : Counts) (l : List Event) (v : List ℕ) (e kind x k : ℕ) (cs : List ℕ) → length v ≡ length l * c.tasks → e < length l
-    → cs ≡ candidatesOn l (chunks (length l) c.tasks v) e kind x
-    → chunks (length l) c.tasks (raisedAt v (e * c.tasks) (λ t. kthLeast k (column c.tasks v t cs)) c.tasks)
+pub chunks_waited : (c : Counts) (l : List Event) (v : List ℕ) (e kind x k : ℕ) (cs : List ℕ) → length v ≡ length l * c.tasks → e < length l
+    → cs ≡ candidates_on l (chunks (length l) c.tasks v) e kind x
+    → chunks (length l) c.tasks (raised_at v (e * c.tasks) (λ t. kth_least k (column c.tasks v t cs)) c.tasks)
     ≡ waited c l (chunks (length l) c.tasks v) e kind x k
-unfolding waited kthAmong
-chunks-waited c l v e kind x k cs h p r =
+unfolding waited kth_among
+chunks_waited c l v e kind x k cs h p r =
     let X = chunks (length l) c.tasks v in
-    chunks-raised (length l) c.tasks v e (λ t. kthLeast k (column c.tasks v t cs)) h p
-    ∙ raisedTo-alike e _ _ (chunks-shaped (length l) c.tasks v h) p λ t j.
-    ap (max (number X e t)) (ap (kthLeast k) (column-chunks (length l) c.tasks v t cs h j ∙ ap (map (λ a. number X a t)) r))
+    chunks_raised (length l) c.tasks v e (λ t. kth_least k (column c.tasks v t cs)) h p
+    ∙ raised_to_alike e _ _ (chunks_shaped (length l) c.tasks v h) p λ t j.
+    ap (max (number X e t)) (ap (kth_least k) (column_chunks (length l) c.tasks v t cs h j ∙ ap (map (λ a. number X a t)) r))
 
 -- both steps
-pub event-raised : (E : Recording) (X Y Z : Vectors) (e : ℕ) → Y ≡ stepOne E X e → Z ≡ stepTwo E Y e → Z ≡ raisedEvent E X e
-unfolding stepTwo raisedEvent raised raisedTo stepOne
-event-raised E X Y Z e q r = r ∙ ap (λ (W : Vectors). stepTwo E W e) q ∙ set-set X e _ _
+pub event_raised : (E : Recording) (X Y Z : Vectors) (e : ℕ) → Y ≡ step_one E X e → Z ≡ step_two E Y e → Z ≡ raised_event E X e
+unfolding step_two raised_event raised raised_to step_one
+event_raised E X Y Z e q r = r ∙ ap (λ (W : Vectors). step_two E W e) q ∙ set-set X e _ _

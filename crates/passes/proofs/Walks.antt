@@ -9,9 +9,9 @@ use native.Mathlib.Omega.{arith}
 use Rattle.model.specs.Numbers.{bit, sum, tally, picked}
 use Rattle.model.specs.Recording.{signal, wait, post}
 use Rattle.model.proofs.Tests.{lt-ltb}
-use Rattle.events.specs.Chains.{Nearest, slots, slotOf}
-use Rattle.events.proofs.Laws.{tally-next}
-use Rattle.passes.proofs.Waits.{picked-miss}
+use Rattle.events.specs.Chains.{Nearest, slots, slot_of}
+use Rattle.events.proofs.Laws.{tally_next}
+use Rattle.passes.proofs.Waits.{picked_miss}
 
 -- what each number from m on leaves as it is
 leap : {A : Type 0} (f : ℕ → A) (m b : ℕ) → m ≤ b → ((i : ℕ) → m ≤ i → i < b → f (i + 1) ≡ f i) → f b ≡ f m
@@ -22,13 +22,13 @@ leap f m (suc b) h e = elim (dec_le m b) [
 ]
 
 -- none is counted at first
-pub tally-start : (p : ℕ → Bool) → tally p 0 ≡ 0
+pub tally_start : (p : ℕ → Bool) → tally p 0 ≡ 0
 unfolding sum
-tally-start p = refl
+tally_start p = refl
 
 -- numbers that fail are not counted
-pub tally-skip : (p : ℕ → Bool) (m b : ℕ) → m ≤ b → ((i : ℕ) → m ≤ i → i < b → p i ≡ false) → tally p b ≡ tally p m
-tally-skip p m b h e = leap (tally p) m b h (λ i x y. omega (arith, tally-next p i, ap bit (e i x y)))
+pub tally_skip : (p : ℕ → Bool) (m b : ℕ) → m ≤ b → ((i : ℕ) → m ≤ i → i < b → p i ≡ false) → tally p b ≡ tally p m
+tally_skip p m b h e = leap (tally p) m b h (λ i x y. omega (arith, tally_next p i, ap bit (e i x y)))
 
 module _ {p : ℕ → Bool} {n m b : ℕ} (f : Nearest p n m b) where
   -- b is the nearest from itself on
@@ -40,15 +40,15 @@ module _ {p : ℕ → Bool} {n m b : ℕ} (f : Nearest p n m b) where
     none : (i : ℕ) → m ≤ i → i < b → (p i && q i) ≡ false
     none i x y = rw (f.passed i x y)
 
-    pub tally-leap : tally (λ i. p i && q i) b ≡ tally (λ i. p i && q i) m
-    tally-leap = tally-skip (λ i. p i && q i) m b f.low none
+    pub tally_leap : tally (λ i. p i && q i) b ≡ tally (λ i. p i && q i) m
+    tally_leap = tally_skip (λ i. p i && q i) m b f.low none
 
-    pub picked-leap : picked (λ i. p i && q i) b ≡ picked (λ i. p i && q i) m
-    picked-leap = leap (picked (λ i. p i && q i)) m b f.low (λ i x y. picked-miss (λ i. p i && q i) i (none i x y))
+    pub picked_leap : picked (λ i. p i && q i) b ≡ picked (λ i. p i && q i) m
+    picked_leap = leap (picked (λ i. p i && q i)) m b f.low (λ i x y. picked_miss (λ i. p i && q i) i (none i x y))
 
 -- ---- slots
 
 -- signals, waits and posts have slots
-pub has-slots : (x : ℕ) → x < 64 → (slotOf signal x < slots) × (slotOf wait x < slots) × (slotOf post x < slots)
-unfolding slotOf
-has-slots x h = rw (lt-ltb x 64 h) (omega arith, omega arith, omega arith)
+pub has_slots : (x : ℕ) → x < 64 → (slot_of signal x < slots) × (slot_of wait x < slots) × (slot_of post x < slots)
+unfolding slot_of
+has_slots x h = rw (lt-ltb x 64 h) (omega arith, omega arith, omega arith)

@@ -4,24 +4,24 @@
 use Rattle.std.specs.Prelude.{ℕ, ◌+◌, ◌*◌, ◌≤◌, ◌<◌, ◌≡◌, Bool, true, cond, ◌&&◌, List, [], ltb, eqb, length, get_or, set}
 use Rattle.model.specs.declared.Counts.{Counts}
 use Rattle.model.specs.declared.Event.{Event}
-use Rattle.model.specs.Recording.{Recording, size, eventIn, signal, wait, post, flagWait}
-use Rattle.model.specs.File.{recordingBy}
+use Rattle.model.specs.Recording.{Recording, size, event_in, signal, wait, post, flag_wait}
+use Rattle.model.specs.File.{recording_by}
 use Rattle.model.specs.Vectors.{Vectors}
 use Rattle.model.specs.Passes.{raised}
-use Rattle.events.specs.Chains.{slotOf}
-use Rattle.passes.specs.Lent.{vectorsIn}
+use Rattle.events.specs.Chains.{slot_of}
+use Rattle.passes.specs.Lent.{vectors_in}
 
 -- a stamp for each event, one for no event, one for each slot of the chains and one for all other events
 abbrev pub stamps : ℕ
 stamps = 1218
 
 -- the place of the stamp of a slot
-abbrev pub slotStamp : ℕ → ℕ
-slotStamp y = 1025 + y
+abbrev pub slot_stamp : ℕ → ℕ
+slot_stamp y = 1025 + y
 
 -- the place of the stamp of what serves the event v: the signals on its semaphore, the posts on its flag, or no event
 unfoldable pub served_at : Event → ℕ
-served_at v = cond (eqb v.kind wait) (slotStamp (slotOf signal v.object)) (cond (eqb v.kind flagWait) (slotStamp (slotOf post v.object)) 1024)
+served_at v = cond (eqb v.kind wait) (slot_stamp (slot_of signal v.object)) (cond (eqb v.kind flag_wait) (slot_stamp (slot_of post v.object)) 1024)
 
 -- the stamp at place i is below `since`
 abbrev pub below : List ℕ → ℕ → ℕ → Bool
@@ -34,11 +34,11 @@ still l sources when e since =
     && below when since (get_or sources (3 * e) 0)
     && below when since (get_or sources (3 * e + 1) 0)
     && below when since (get_or sources (3 * e + 2) 0)
-    && below when since (served_at (eventIn l e))
+    && below when since (served_at (event_in l e))
 
 -- the vector of e, which is the event v, changed at this time
 abbrev pub touched : Event → ℕ → ℕ → List ℕ → List ℕ
-touched v e time when = set (set when e time) (slotStamp (slotOf v.kind v.object)) time
+touched v e time when = set (set when e time) (slot_stamp (slot_of v.kind v.object)) time
 
 -- the running state before the turn of e in the pass that begins at `base`: stamps lie in the past, and an event that has read nothing
 -- changed since its last turn stays as it is
@@ -50,7 +50,7 @@ pub record Known (E : Recording) (X : Vectors) (sources when : List ℕ) (base e
 
 -- and with lent numbers for the vectors
 abbrev pub KnownIn : List ℕ → Counts → List ℕ → List ℕ → List ℕ → List ℕ → ℕ → ℕ → Type 0
-KnownIn s c b v sources when base e = Known (recordingBy s c b) (vectorsIn s c v) sources when base e
+KnownIn s c b v sources when base e = Known (recording_by s c b) (vectors_in s c v) sources when base e
 
 -- passes begin from 1,024 on and, whatever the budget, none later than at 1,024 × 2³², so no time is beyond a 64 bit number
 abbrev pub Timed : ℕ → Type 0

@@ -3,17 +3,17 @@
 ghost use Rattle.std.specs.Prelude.{◌+◌, ◌*◌, ◌/◌, ◌%◌, ◌≤◌, ◌<◌, ◌≡◌, [], ◌++◌, length, drop};
 ghost use Rattle.std.proofs.lemmas.List.Edits.{sets};
 ghost use Rattle.model.specs.Numbers.{found};
-ghost use Rattle.model.specs.Recording.{eventIn};
-ghost use Rattle.model.specs.File.{eventsOf, recordingBy};
-ghost use Rattle.model.specs.Vectors.{atOrBefore, flat, start, ordered};
-ghost use Rattle.model.specs.Passes.{stepOne, k_of, pass, run};
-ghost use Rattle.model.specs.Reading.{mostSemaphores, mostEvents};
+ghost use Rattle.model.specs.Recording.{event_in};
+ghost use Rattle.model.specs.File.{events_of, recording_by};
+ghost use Rattle.model.specs.Vectors.{at_or_before, flat, start, ordered};
+ghost use Rattle.model.specs.Passes.{step_one, k_of, pass, run};
+ghost use Rattle.model.specs.Reading.{most_semaphores, most_events};
 ghost use Rattle.vectors.specs.Rows.{Rose};
 ghost use Rattle.events.specs.Kept.{source_of, Sources};
-ghost use Rattle.events.specs.Chains.{slots, slotOf, Gathered};
-ghost use Rattle.passes.specs.Lent.{vectorsIn, over, Becomes, Fitting, Numbered, Records, Placed, Prepared, Inside, raisedFound};
+ghost use Rattle.events.specs.Chains.{slots, slot_of, Gathered};
+ghost use Rattle.passes.specs.Lent.{vectors_in, over, Becomes, Fitting, Numbered, Records, Placed, Prepared, Inside, raised_found};
 ghost use Rattle.passes.specs.Stamps.{stamps, served_at, still, touched, KnownIn, Timed};
-ghost use Rattle.passes.specs.Steps.{firstRow, taken, candidatesOn, waited, stepTwo, raisedEvent};
+ghost use Rattle.passes.specs.Steps.{first_row, taken, candidates_on, waited, step_two, raised_event};
 
 use events::{CHAINS, SOURCES};
 use model::{Counts, Event, FLAG_WAIT, Found, MOST_EVENTS, POST, SIGNAL, WAIT};
@@ -36,7 +36,7 @@ pub fn at_or_before(
 ) -> bool
     requires placed { Placed records.now counts positions.now × Fitting records.now counts v.now }
     requires numbered { Numbered records.now a × Numbered records.now b }
-    ensures { result ≡ atOrBefore (eventsOf records.now) (vectorsIn records.now counts v.now) a b }
+    ensures { result ≡ at_or_before (events_of records.now) (vectors_in records.now counts v.now) a b }
 {
     let e = events::event_at(records, a);
     let tasks = counts.tasks as usize;
@@ -54,7 +54,7 @@ pub fn ordered(
 ) -> bool
     requires placed { Placed records.now counts positions.now × Fitting records.now counts v.now }
     requires numbered { Numbered records.now a × Numbered records.now b }
-    ensures { result ≡ ordered (eventsOf records.now) (vectorsIn records.now counts v.now) a b }
+    ensures { result ≡ ordered (events_of records.now) (vectors_in records.now counts v.now) a b }
 {
     if a == b {
         return false;
@@ -65,7 +65,7 @@ pub fn ordered(
 // Raises vector e to that of a found event. Answers whether any number rose.
 pub fn raise_found(v: &mut [u16], e: usize, tasks: usize, from: Found) -> bool
     requires { (e * tasks + tasks ≤ length v.old) × Inside tasks (length v.old) from }
-    ensures v_after { v.new ≡ raisedFound tasks v.old e from }
+    ensures v_after { v.new ≡ raised_found tasks v.old e from }
     ensures rose { Rose v.old v.new result }
 {
     match from {
@@ -83,8 +83,8 @@ fn raise_source(
     e: usize,
     v: &mut [u16],
 ) -> bool
-    requires records { Records records.now counts × Fitting records.now counts v.old × Numbered records.now e × Sources (eventsOf records.now) sources.now }
-    requires i_bound { i < 3 * length (eventsOf records.now) }
+    requires records { Records records.now counts × Fitting records.now counts v.old × Numbered records.now e × Sources (events_of records.now) sources.now }
+    requires i_bound { i < 3 * length (events_of records.now) }
     ensures becomes { Becomes (λ E X. taken counts X (found (source_of E.events (i / 3) (i % 3))) e) records.now counts [] v.old v.new }
     ensures rose { Rose v.old v.new result }
 {
@@ -100,8 +100,8 @@ pub fn step_one(
     e: usize,
     v: &mut [u16],
 ) -> bool
-    requires { Records records.now counts × Fitting records.now counts v.old × Numbered records.now e × Sources (eventsOf records.now) sources.now }
-    ensures becomes { Becomes (λ E X. stepOne E X e) records.now counts [] v.old v.new }
+    requires { Records records.now counts × Fitting records.now counts v.old × Numbered records.now e × Sources (events_of records.now) sources.now }
+    ensures becomes { Becomes (λ E X. step_one E X e) records.now counts [] v.old v.new }
     ensures rose { Rose v.old v.new result }
 {
     let x = raise_source(records, counts, sources, 3 * e, e, v);
@@ -123,7 +123,7 @@ fn needed(
     s: u16,
 ) -> u16
     requires placed { Placed records.now counts positions.now × Fitting records.now counts v.now × Numbered records.now e }
-    requires gathered { Gathered records.now chains.now × (s < mostSemaphores) }
+    requires gathered { Gathered records.now chains.now × (s < most_semaphores) }
     ensures { result ≡ over k_of records.now counts levels.now v.now e s }
 {
     let n = records.len() / 4;
@@ -155,9 +155,9 @@ fn candidates(
     out: &mut [u16],
 ) -> usize
     requires placed { Placed records.now counts positions.now × Fitting records.now counts v.now × Numbered records.now e }
-    requires gathered { Gathered records.now chains.now × (slotOf kind x < slots) × (mostEvents ≤ length out.old) }
-    ensures value { result ≡ length (candidatesOn (eventsOf records.now) (vectorsIn records.now counts v.now) e kind x) }
-    ensures out_after { out.new ≡ candidatesOn (eventsOf records.now) (vectorsIn records.now counts v.now) e kind x
+    requires gathered { Gathered records.now chains.now × (slot_of kind x < slots) × (most_events ≤ length out.old) }
+    ensures value { result ≡ length (candidates_on (events_of records.now) (vectors_in records.now counts v.now) e kind x) }
+    ensures out_after { out.new ≡ candidates_on (events_of records.now) (vectors_in records.now counts v.now) e kind x
         ++ drop result out.old }
 {
     let n = records.len() / 4;
@@ -187,7 +187,7 @@ fn raise_wait(
     v: &mut [u16],
 ) -> bool
     requires placed { Placed records.now counts positions.now × Fitting records.now counts v.old × Numbered records.now e }
-    requires gathered { Gathered records.now chains.now × (slotOf kind x < slots) }
+    requires gathered { Gathered records.now chains.now × (slot_of kind x < slots) }
     ensures becomes { Becomes (λ E X. waited counts E.events X e kind x k) records.now counts [] v.old v.new }
     ensures rose { Rose v.old v.new result }
 {
@@ -211,7 +211,7 @@ fn step_two(
     v: &mut [u16],
 ) -> bool
     requires { Placed records.now counts positions.now × Fitting records.now counts v.old × Numbered records.now e × Gathered records.now chains.now }
-    ensures becomes { Becomes (λ E X. stepTwo E X e) records.now counts levels.now v.old v.new }
+    ensures becomes { Becomes (λ E X. step_two E X e) records.now counts levels.now v.old v.new }
     ensures rose { Rose v.old v.new result }
 {
     let w = events::event_at(records, e);
@@ -240,7 +240,7 @@ fn raise_event(
     v: &mut [u16],
 ) -> bool
     requires { Prepared records.now counts positions.now sources.now chains.now × Fitting records.now counts v.old × Numbered records.now e }
-    ensures becomes { Becomes (λ E X. raisedEvent E X e) records.now counts levels.now v.old v.new }
+    ensures becomes { Becomes (λ E X. raised_event E X e) records.now counts levels.now v.old v.new }
     ensures rose { Rose v.old v.new result }
 {
     let x = step_one(records, counts, sources, e, v);
@@ -280,8 +280,8 @@ fn still(
     e: usize,
     since: u64,
 ) -> bool
-    requires { Sources (eventsOf records.now) sources.now × Numbered records.now e × (length (eventsOf records.now) ≤ mostEvents) × (4 * e + 3 < length records.now) }
-    ensures { result ≡ still (eventsOf records.now) sources.now when.now e since }
+    requires { Sources (events_of records.now) sources.now × Numbered records.now e × (length (events_of records.now) ≤ most_events) × (4 * e + 3 < length records.now) }
+    ensures { result ≡ still (events_of records.now) sources.now when.now e since }
 {
     let before = sources[3 * e] as usize;
     let fork = sources[3 * e + 1] as usize;
@@ -296,8 +296,8 @@ fn still(
 
 // Notes that the vector of event e changed at this time.
 fn touch(records: &[u8], e: usize, time: u64, when: &mut [u64; STAMPS])
-    requires { (4 * e + 3 < length records.now) × (e < mostEvents) }
-    ensures { when.new ≡ touched (eventIn (eventsOf records.now) e) e time when.old }
+    requires { (4 * e + 3 < length records.now) × (e < most_events) }
+    ensures { when.new ≡ touched (event_in (events_of records.now) e) e time when.old }
 {
     let v = events::event_at(records, e);
     when[e] = time;
@@ -320,7 +320,7 @@ fn turn(
 ) -> bool
     requires prepared { Prepared records.now counts positions.now sources.now chains.now × Fitting records.now counts v.old × Numbered records.now e }
     requires timed { Timed base × KnownIn records.now counts levels.now v.old sources.now when.old base e }
-    ensures becomes { Becomes (λ E X. raisedEvent E X e) records.now counts levels.now v.old v.new }
+    ensures becomes { Becomes (λ E X. raised_event E X e) records.now counts levels.now v.old v.new }
     ensures rose { Rose v.old v.new result }
     ensures known_in { KnownIn records.now counts levels.now v.new sources.now when.new base (e + 1) }
 {
@@ -376,7 +376,7 @@ fn start_event(
     v: &mut [u16],
 )
     requires { Placed records.now counts positions.now × Numbered records.now e × (from + counts.tasks ≤ length v.old) }
-    ensures { v.new ≡ sets v.old from (firstRow counts (eventsOf records.now) e) }
+    ensures { v.new ≡ sets v.old from (first_row counts (events_of records.now) e) }
 {
     let own = events::event_at(records, e);
     let tasks = counts.tasks as usize;
@@ -386,7 +386,7 @@ fn start_event(
 // Writes the starting vectors.
 pub fn start(records: &[u8], counts: Counts, positions: &[u16], v: &mut [u16])
     requires { Placed records.now counts positions.now × Fitting records.now counts v.old }
-    ensures { v.new ≡ flat (start (recordingBy records.now counts [])) }
+    ensures { v.new ≡ flat (start (recording_by records.now counts [])) }
 {
     let n = records.len() / 4;
     let tasks = counts.tasks as usize;
@@ -411,10 +411,10 @@ fn passes(
     v: &mut [u16],
 ) -> Outcome
     requires prepared { Prepared records.now counts positions.now sources.now chains.now × Fitting records.now counts v.old }
-    requires v_value { v.old ≡ flat (start (recordingBy records.now counts levels.now)) }
-    ensures passes_value { result.passes ≡ (run (recordingBy records.now counts levels.now) budget).passes }
-    ensures settled_value { result.settled ≡ (run (recordingBy records.now counts levels.now) budget).settled }
-    ensures v_after { v.new ≡ flat (run (recordingBy records.now counts levels.now) budget).vectors }
+    requires v_value { v.old ≡ flat (start (recording_by records.now counts levels.now)) }
+    ensures passes_value { result.passes ≡ (run (recording_by records.now counts levels.now) budget).passes }
+    ensures settled_value { result.settled ≡ (run (recording_by records.now counts levels.now) budget).settled }
+    ensures v_after { v.new ≡ flat (run (recording_by records.now counts levels.now) budget).vectors }
 {
     let mut when = [PASS - 1; STAMPS];
     let mut base = PASS;
@@ -450,9 +450,9 @@ pub fn run(
     v: &mut [u16],
 ) -> Outcome
     requires { Prepared records.now counts positions.now sources.now chains.now × Fitting records.now counts v.old }
-    ensures passes_value { result.passes ≡ (run (recordingBy records.now counts levels.now) budget).passes }
-    ensures settled_value { result.settled ≡ (run (recordingBy records.now counts levels.now) budget).settled }
-    ensures v_after { v.new ≡ flat (run (recordingBy records.now counts levels.now) budget).vectors }
+    ensures passes_value { result.passes ≡ (run (recording_by records.now counts levels.now) budget).passes }
+    ensures settled_value { result.settled ≡ (run (recording_by records.now counts levels.now) budget).settled }
+    ensures v_after { v.new ≡ flat (run (recording_by records.now counts levels.now) budget).vectors }
 {
     start(records, counts, positions, v);
     passes(

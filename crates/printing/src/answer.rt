@@ -2,14 +2,14 @@
 ghost use Rattle.std.specs.Prelude.{◌≡◌};
 ghost use Rattle.model.specs.Reading.{reading_of};
 ghost use Rattle.printing.specs.Output.{Put};
-ghost use Rattle.printing.specs.Answer.{tasksIn, Holds, answerText};
+ghost use Rattle.printing.specs.Answer.{tasks_in, Holds, answer_text};
 
 use crate::entries::put_entries;
 use crate::lines::{put_refusal, put_result};
 use model::{Analysis, Reading};
 
 pub fn tasks_of(file: &[u8]) -> u16
-    ensures { result ≡ tasksIn (reading_of file.now) }
+    ensures { result ≡ tasks_in (reading_of file.now) }
 {
     match recording::read(file) {
         Reading::Accepted(h) => h.counts.tasks,
@@ -25,7 +25,7 @@ pub fn put_answer(
     list: &[u16],
 ) -> usize
     requires { Holds answer list.now }
-    ensures { Put out.old out.new 0 (answerText records.now tasks answer list.now) result }
+    ensures { Put out.old out.new 0 (answer_text records.now tasks answer list.now) result }
 {
     match answer {
         Analysis::Done {

@@ -2,7 +2,7 @@
 ghost use Rattle.std.specs.Prelude.{◌≤◌, ◌++◌, eqb, length};
 ghost use Rattle.model.specs.Text.{decimal};
 ghost use Rattle.printing.specs.Output.{Put};
-ghost use Rattle.model.specs.Report.{resultLine, entryLine, refusalLine, settledWord, markWord};
+ghost use Rattle.model.specs.Report.{result_line, entry_line, refusal_line, settled_word, mark_word};
 
 use crate::output::{put_number, put_text};
 use model::Refusal;
@@ -18,7 +18,7 @@ fn put_field(out: &mut [u8], at: usize, word: &[u8], n: usize) -> usize
 
 fn put_settled(out: &mut [u8], at: usize, settled: bool) -> usize
     requires { at ≤ length out.old }
-    ensures { Put out.old out.new at (settledWord settled) result }
+    ensures { Put out.old out.new at (settled_word settled) result }
 {
     if settled {
         return put_text(out, at, b"yes");
@@ -28,7 +28,7 @@ fn put_settled(out: &mut [u8], at: usize, settled: bool) -> usize
 
 fn put_mark(out: &mut [u8], at: usize, mark: u16) -> usize
     requires { at ≤ length out.old }
-    ensures { Put out.old out.new at (markWord (eqb mark 1)) result }
+    ensures { Put out.old out.new at (mark_word (eqb mark 1)) result }
 {
     if mark == 1 {
         return put_text(out, at, b"sure");
@@ -46,7 +46,7 @@ pub fn put_result(
     pairs: usize,
 ) -> usize
     requires { at ≤ length out.old }
-    ensures { Put out.old out.new at (resultLine events tasks passes settled pairs) result }
+    ensures { Put out.old out.new at (result_line events tasks passes settled pairs) result }
 {
     let a = put_field(out, at, b"events ", events);
     let b = put_field(out, a, b" tasks ", tasks as usize);
@@ -59,7 +59,7 @@ pub fn put_result(
 
 pub fn put_entry(out: &mut [u8], at: usize, cell: u16, first: u16, second: u16, mark: u16) -> usize
     requires { at ≤ length out.old }
-    ensures { Put out.old out.new at (entryLine cell first second mark) result }
+    ensures { Put out.old out.new at (entry_line cell first second mark) result }
 {
     let a = put_field(out, at, b"cell ", cell as usize);
     let b = put_field(out, a, b" ", first as usize);
@@ -71,7 +71,7 @@ pub fn put_entry(out: &mut [u8], at: usize, cell: u16, first: u16, second: u16, 
 
 pub fn put_refusal(out: &mut [u8], at: usize, refusal: Refusal) -> usize
     requires { at ≤ length out.old }
-    ensures { Put out.old out.new at (refusalLine refusal) result }
+    ensures { Put out.old out.new at (refusal_line refusal) result }
 {
     let number = refusal.number();
     let record = refusal.record();

@@ -11,17 +11,17 @@ use lib.ListN.{length, get_or, take, set, replicate, length-set, length-replicat
 use lib.Seq.{get_or-set_same, get_or-set_other, take-suc, take_all}
 use Rattle.model.specs.declared.Found.{Found}
 use Rattle.model.specs.Numbers.{bit, tally, picked, nth}
-use Rattle.model.specs.File.{eventsOf}
-use Rattle.model.specs.Passes.{eventsOn}
+use Rattle.model.specs.File.{events_of}
+use Rattle.model.specs.Passes.{events_on}
 use Rattle.model.proofs.Tests.{cases, tests, fails, second, eqb-true, lt-ltb}
 use Rattle.model.proofs.Sum.{rank_rises}
-use Rattle.model.proofs.Picked.{picked-length, rank-at}
-use Rattle.events.specs.Chains.{onAt, Nearest, head, slotOf, Chain, Gathered}
-use Rattle.events.proofs.Laws.{tally-next}
-use Rattle.recorded.specs.Matching.{signalAt, waitAt, AtHand, Matching}
-use Rattle.recorded.proofs.Searches.{nth_here, nth-none}
-use Rattle.passes.proofs.Walks.{tally-start, tally-skip, has-slots}
-use Rattle.model.specs.Recording.{Levels, start_of, eventIn, signal, wait}
+use Rattle.model.proofs.Picked.{picked_length, rank_at}
+use Rattle.events.specs.Chains.{on_at, Nearest, head, slot_of, Chain, Gathered}
+use Rattle.events.proofs.Laws.{tally_next}
+use Rattle.recorded.specs.Matching.{signal_at, wait_at, AtHand, Matching}
+use Rattle.recorded.proofs.Searches.{nth_here, nth_none}
+use Rattle.passes.proofs.Walks.{tally_start, tally_skip, has_slots}
+use Rattle.model.specs.Recording.{Levels, start_of, event_in, signal, wait}
 
 -- ---- what is at hand
 
@@ -29,83 +29,83 @@ module _ (p : ℕ → Bool) (n : ℕ) where
   -- the first one
   pub hand_first : (b : ℕ) → Nearest p n 0 b → AtHand p n 0 b
   hand_first b r =
-      let t = tally-skip p 0 b (omega arith) r.passed in
-      let z = tally-start p in
+      let t = tally_skip p 0 b (omega arith) r.passed in
+      let z = tally_start p in
       record { high = r.high; hit = r.hit; rank = λ _. omega arith; most = omega arith }
 
   -- it is taken, and the next one is at hand
-  pub hand-next : (w a b : ℕ) → a < n → AtHand p n w a → Nearest p n (a + 1) b → AtHand p n (w + 1) b
-  hand-next w a b k h r =
-      let t = tally-skip p (a + 1) b r.low r.passed in
-      let u = tally-next p a in
+  pub hand_next : (w a b : ℕ) → a < n → AtHand p n w a → Nearest p n (a + 1) b → AtHand p n (w + 1) b
+  hand_next w a b k h r =
+      let t = tally_skip p (a + 1) b r.low r.passed in
+      let u = tally_next p a in
       let z = ap bit (h.hit k) in
       let q = h.rank k in
       record { high = r.high; hit = r.hit; rank = λ _. omega arith; most = omega arith }
 
   -- none is at hand, and none stays at hand
-  pub none-next : (w b : ℕ) → n ≤ b → AtHand p n w b → AtHand p n (w + 1) b
-  none-next w b l h = record { high = h.high; hit = h.hit; rank = λ k. absurd (omega arith); most = omega (arith, h.most) }
+  pub none_next : (w b : ℕ) → n ≤ b → AtHand p n w b → AtHand p n (w + 1) b
+  none_next w b l h = record { high = h.high; hit = h.hit; rank = λ k. absurd (omega arith); most = omega (arith, h.most) }
 
 -- of the events of a kind on x, b is the one at place w
-module _ (s : List ℕ) (kind x w b : ℕ) (h : AtHand (onAt s kind x) (length (eventsOf s)) w b) where
-  pub hand_at : b < length (eventsOf s) → Found.At b ≡ nth (eventsOn (eventsOf s) kind x) w
-  unfolding eventsOn
-  hand_at l = nth_here (onAt s kind x) (length (eventsOf s)) w b l (h.hit l) (h.rank l)
+module _ (s : List ℕ) (kind x w b : ℕ) (h : AtHand (on_at s kind x) (length (events_of s)) w b) where
+  pub hand_at : b < length (events_of s) → Found.At b ≡ nth (events_on (events_of s) kind x) w
+  unfolding events_on
+  hand_at l = nth_here (on_at s kind x) (length (events_of s)) w b l (h.hit l) (h.rank l)
 
-  few : length (eventsOf s) ≤ b → tally (onAt s kind x) (length (eventsOf s)) ≤ w
-  few l = let q : b ≡ length (eventsOf s) = omega (arith, h.high) in rw q at h.most
+  few : length (events_of s) ≤ b → tally (on_at s kind x) (length (events_of s)) ≤ w
+  few l = let q : b ≡ length (events_of s) = omega (arith, h.high) in rw q at h.most
 
-  pub hand-none : length (eventsOf s) ≤ b → Found.Nothing ≡ nth (eventsOn (eventsOf s) kind x) w
-  unfolding eventsOn
-  hand-none l = nth-none (onAt s kind x) (length (eventsOf s)) w (few l)
+  pub hand_none : length (events_of s) ≤ b → Found.Nothing ≡ nth (events_on (events_of s) kind x) w
+  unfolding events_on
+  hand_none l = nth_none (on_at s kind x) (length (events_of s)) w (few l)
 
   -- with the w before it, it makes the first w + 1; where there is none, those before are all
-  pub first_more : b < length (eventsOf s) → take w (eventsOn (eventsOf s) kind x) ++ b ∷ [] ≡ take (w + 1) (eventsOn (eventsOf s) kind x)
-  unfolding eventsOn
+  pub first_more : b < length (events_of s) → take w (events_on (events_of s) kind x) ++ b ∷ [] ≡ take (w + 1) (events_on (events_of s) kind x)
+  unfolding events_on
   first_more l =
-      let n = length (eventsOf s) in
-      let p = onAt s kind x in
-      let at : get_or (picked p n) w 0 ≡ b = ap (λ (k : ℕ). get_or (picked p n) k 0) (sym (h.rank l)) ∙ rank-at p n b l (h.hit l) in
-      rw (add-one w, take-suc (picked p n) w 0 (omega (arith, h.rank l, rank_rises p b n l (h.hit l), picked-length p n)), at)
+      let n = length (events_of s) in
+      let p = on_at s kind x in
+      let at : get_or (picked p n) w 0 ≡ b = ap (λ (k : ℕ). get_or (picked p n) k 0) (sym (h.rank l)) ∙ rank_at p n b l (h.hit l) in
+      rw (add-one w, take-suc (picked p n) w 0 (omega (arith, h.rank l, rank_rises p b n l (h.hit l), picked_length p n)), at)
 
-  pub first-all : length (eventsOf s) ≤ b → (m : ℕ) → w ≤ m → take w (eventsOn (eventsOf s) kind x) ≡ take m (eventsOn (eventsOf s) kind x)
-  unfolding eventsOn
-  first-all l m k =
-      let on = picked (onAt s kind x) (length (eventsOf s)) in
-      let z = picked-length (onAt s kind x) (length (eventsOf s)) in
+  pub first_all : length (events_of s) ≤ b → (m : ℕ) → w ≤ m → take w (events_on (events_of s) kind x) ≡ take m (events_on (events_of s) kind x)
+  unfolding events_on
+  first_all l m k =
+      let on = picked (on_at s kind x) (length (events_of s)) in
+      let z = picked_length (on_at s kind x) (length (events_of s)) in
       take_all w on (omega (arith, few l)) ∙ sym (take_all m on (omega (arith, few l)))
 
 -- ---- the running state
 
 -- where a semaphore's signals have their slot
-signal-slot : (x : ℕ) → x < 64 → slotOf signal x ≡ x
-unfolding slotOf
-signal-slot x h = rw (lt-ltb x 64 h)
+signal_slot : (x : ℕ) → x < 64 → slot_of signal x ≡ x
+unfolding slot_of
+signal_slot x h = rw (lt-ltb x 64 h)
 
 -- before the first event, by the signals' chains
 pub start : (s : List ℕ) (levels : Levels) (chain : List ℕ) → Gathered s chain → Matching s levels 0 (replicate 64 0) chain
 start s levels chain c =
-    let of : (x : ℕ) → x < 64 → Chain (signalAt s x) (length (eventsOf s)) (head x) chain =
-    λ x l. rw (signal-slot x l) at (c.each signal x (has-slots x l).0) in
+    let of : (x : ℕ) → x < 64 → Chain (signal_at s x) (length (events_of s)) (head x) chain =
+    λ x l. rw (signal_slot x l) at (c.each signal x (has_slots x l).0) in
     record {
       places = length-replicate {A = ℕ} 64 0;
       wide = c.wide;
-      counted = λ x l. rw (get_or-replicate {A = ℕ} 64 x 0 0 l) (omega (arith, tally-start (waitAt s x)));
+      counted = λ x l. rw (get_or-replicate {A = ℕ} 64 x 0 0 l) (omega (arith, tally_start (wait_at s x)));
       heads = λ x l.
-          let w : 0 ≡ tally (waitAt s x) 0 - start_of levels x = omega (arith, tally-start (waitAt s x)) in
-          subst (λ (w : ℕ). AtHand (signalAt s x) (length (eventsOf s)) w (get_or chain (head x) 0)) w (hand_first (signalAt s x) (length (eventsOf s)) (get_or chain (head x) 0) (of x l).first);
+          let w : 0 ≡ tally (wait_at s x) 0 - start_of levels x = omega (arith, tally_start (wait_at s x)) in
+          subst (λ (w : ℕ). AtHand (signal_at s x) (length (events_of s)) w (get_or chain (head x) 0)) w (hand_first (signal_at s x) (length (events_of s)) (get_or chain (head x) 0) (of x l).first);
       links = λ a x l m t. (of x m).next a l t;
     }
 
 module _ (s : List ℕ) (levels : Levels) (e : ℕ) (unmatched chain : List ℕ) (m : Matching s levels e unmatched chain) where
   -- what is at hand on x with w signals before it
   abbrev Hand : ℕ → ℕ → ℕ → Type 0
-  Hand x w b = AtHand (signalAt s x) (length (eventsOf s)) w b
+  Hand x w b = AtHand (signal_at s x) (length (events_of s)) w b
 
   -- an event that is no wait
-  pub next-other : ((x : ℕ) → waitAt s x e ≡ false) → Matching s levels (e + 1) unmatched chain
-  next-other h =
-      let q : (x : ℕ) → tally (waitAt s x) (e + 1) ≡ tally (waitAt s x) e = λ x. omega (arith, tally-next (waitAt s x) e, ap bit (h x)) in
+  pub next_other : ((x : ℕ) → wait_at s x e ≡ false) → Matching s levels (e + 1) unmatched chain
+  next_other h =
+      let q : (x : ℕ) → tally (wait_at s x) (e + 1) ≡ tally (wait_at s x) e = λ x. omega (arith, tally_next (wait_at s x) e, ap bit (h x)) in
       record {
         places = m.places;
         wide = m.wide;
@@ -115,31 +115,31 @@ module _ (s : List ℕ) (levels : Levels) (e : ℕ) (unmatched chain : List ℕ)
       }
 
   -- a wait on y
-  module _ (y : ℕ) (l : y < 64) (t : waitAt s y e ≡ true) where
-    only : (x : ℕ) → (x ≡ y → ⊥) → waitAt s x e ≡ false
+  module _ (y : ℕ) (l : y < 64) (t : wait_at s y e ≡ true) where
+    only : (x : ℕ) → (x ≡ y → ⊥) → wait_at s x e ≡ false
     only x d =
-        let v = eventIn (eventsOf s) e in
+        let v = event_in (events_of s) e in
         let o = eqb-true v.object y (second (eqb v.kind wait) (eqb v.object y) t) in
-        fails (waitAt s x e) (λ u. let z = eqb-true v.object x (second (eqb v.kind wait) (eqb v.object x) u) in d (omega arith))
+        fails (wait_at s x e) (λ u. let z = eqb-true v.object x (second (eqb v.kind wait) (eqb v.object x) u) in d (omega arith))
 
-    here : tally (waitAt s y) (e + 1) ≡ tally (waitAt s y) e + 1
-    here = omega (arith, tally-next (waitAt s y) e, ap bit t)
+    here : tally (wait_at s y) (e + 1) ≡ tally (wait_at s y) e + 1
+    here = omega (arith, tally_next (wait_at s y) e, ap bit t)
 
-    there : (x : ℕ) → (x ≡ y → ⊥) → tally (waitAt s x) (e + 1) ≡ tally (waitAt s x) e
-    there x d = omega (arith, tally-next (waitAt s x) e, ap bit (only x d))
+    there : (x : ℕ) → (x ≡ y → ⊥) → tally (wait_at s x) (e + 1) ≡ tally (wait_at s x) e
+    there x d = omega (arith, tally_next (wait_at s x) e, ap bit (only x d))
 
     -- what holds at y, and was kept at the others, holds at each
-    at_each : (P : ℕ → ℕ → Type 0) → P y (tally (waitAt s y) e + 1) → (x : ℕ) → ((x ≡ y → ⊥) → P x (tally (waitAt s x) e)) → P x (tally (waitAt s x) (e + 1))
+    at_each : (P : ℕ → ℕ → Type 0) → P y (tally (wait_at s y) e + 1) → (x : ℕ) → ((x ≡ y → ⊥) → P x (tally (wait_at s x) e)) → P x (tally (wait_at s x) (e + 1))
     at_each P h x k =
         cases (eqb x y)
         (λ u. let q : x ≡ y = omega tests in rw (q, here) h)
         (λ u. let d : x ≡ y → ⊥ = λ q. omega tests in rw (there x d) (k d))
 
     -- one of the first, as many as the start count
-    pub next-early : get_or unmatched y 0 < start_of levels y → Matching s levels (e + 1) (set unmatched y (get_or unmatched y 0 + 1)) chain
-    next-early h =
+    pub next_early : get_or unmatched y 0 < start_of levels y → Matching s levels (e + 1) (set unmatched y (get_or unmatched y 0 + 1)) chain
+    next_early h =
         let n = get_or unmatched y 0 + 1 in
-        let z : tally (waitAt s y) e + 1 - start_of levels y ≡ tally (waitAt s y) e - start_of levels y = omega (arith, m.counted y l) in
+        let z : tally (wait_at s y) e + 1 - start_of levels y ≡ tally (wait_at s y) e - start_of levels y = omega (arith, m.counted y l) in
         record {
           places = length-set unmatched y n ∙ m.places;
           wide = m.wide;
@@ -152,10 +152,10 @@ module _ (s : List ℕ) (levels : Levels) (e : ℕ) (unmatched chain : List ℕ)
         }
 
     -- a later one, and what is at hand there then
-    pub next-later : start_of levels y ≤ get_or unmatched y 0 → (a : ℕ) → Hand y (tally (waitAt s y) e - start_of levels y + 1) a → length (eventsOf s) ≤ 1024
+    pub next_later : start_of levels y ≤ get_or unmatched y 0 → (a : ℕ) → Hand y (tally (wait_at s y) e - start_of levels y + 1) a → length (events_of s) ≤ 1024
         → Matching s levels (e + 1) unmatched (set chain (head y) a)
-    next-later h a n g =
-        let z : tally (waitAt s y) e + 1 - start_of levels y ≡ tally (waitAt s y) e - start_of levels y + 1 = omega (arith, m.counted y l) in
+    next_later h a n g =
+        let z : tally (wait_at s y) e + 1 - start_of levels y ≡ tally (wait_at s y) e - start_of levels y + 1 = omega (arith, m.counted y l) in
         record {
           places = m.places;
           wide = length-set chain (head y) a ∙ m.wide;
@@ -168,5 +168,5 @@ module _ (s : List ℕ) (levels : Levels) (e : ℕ) (unmatched chain : List ℕ)
         }
 
   -- the signal at hand is taken, and the next one is at hand
-  pub taken_next : (y w a : ℕ) → y < 64 → a < length (eventsOf s) → Hand y w a → Hand y (w + 1) (get_or chain a 0)
-  taken_next y w a l k h = hand-next (signalAt s y) (length (eventsOf s)) w a (get_or chain a 0) k h (m.links a y k l (h.hit k))
+  pub taken_next : (y w a : ℕ) → y < 64 → a < length (events_of s) → Hand y w a → Hand y (w + 1) (get_or chain a 0)
+  taken_next y w a l k h = hand_next (signal_at s y) (length (events_of s)) w a (get_or chain a 0) k h (m.links a y k l (h.hit k))

@@ -8,23 +8,23 @@ use native.Mathlib.Omega.{arith}
 use lib.ListN.{take}
 use Rattle.model.specs.declared.Found.{Found}
 use Rattle.model.specs.Numbers.{tally, picked, nth}
-use Rattle.model.specs.Recording.{start_of, post_of, Recording, kind_of, objectOf, wait, flagWait}
-use Rattle.model.specs.Passes.{signalsOn, postsOn}
-use Rattle.model.specs.Recorded.{waitsBefore, matched, opened}
+use Rattle.model.specs.Recording.{start_of, post_of, Recording, kind_of, object_of, wait, flag_wait}
+use Rattle.model.specs.Passes.{signals_on, posts_on}
+use Rattle.model.specs.Recorded.{waits_before, matched, opened}
 use Rattle.model.proofs.Tests.{eq-eqb, ne_eqb, lt-ltb, le-ltb}
 use Rattle.model.proofs.Sum.{rank_rises, rank_same}
-use Rattle.model.proofs.Picked.{nth_of, nth-found}
+use Rattle.model.proofs.Picked.{nth_of, nth_found}
 
 -- the number of rank k
 pub nth_here : (p : ℕ → Bool) (n k a : ℕ) → a < n → p a ≡ true → tally p a ≡ k → Found.At a ≡ nth (picked p n) k
 nth_here p n k a l t r =
-    let (x, q) = nth-found p n k (let h = rank_rises p a n l t in omega arith) in
+    let (x, q) = nth_found p n k (let h = rank_rises p a n l t in omega arith) in
     let (m, s, z) = nth_of p n k x q in
     ap (λ (y : ℕ). Found.At y) (rank_same p a x t s (r ∙ sym z)) ∙ sym q
 
 -- there is none
-pub nth-none : (p : ℕ → Bool) (n k : ℕ) → tally p n ≤ k → Found.Nothing ≡ nth (picked p n) k
-nth-none p n k h = go (nth (picked p n) k) refl
+pub nth_none : (p : ℕ → Bool) (n k : ℕ) → tally p n ≤ k → Found.Nothing ≡ nth (picked p n) k
+nth_none p n k h = go (nth (picked p n) k) refl
   where
     go : (m : Found) → nth (picked p n) k ≡ m → Found.Nothing ≡ m
     go (Found.At x) q = let (l, s, z) = nth_of p n k x q in absurd (let r = rank_rises p x n l s in omega arith)
@@ -32,26 +32,26 @@ nth-none p n k h = go (nth (picked p n) k) refl
 
 module _ (E : Recording) (e : ℕ) where
   -- a wait that the start count serves, a later one, and any other event
-  pub matched-early : kind_of E e ≡ wait → waitsBefore E.events e < start_of E.levels (objectOf E e)
+  pub matched_early : kind_of E e ≡ wait → waits_before E.events e < start_of E.levels (object_of E e)
       → Found.Nothing ≡ matched E.levels E.events e
   unfolding matched
-  matched-early q h = rw (eq-eqb (kind_of E e) wait q, lt-ltb _ _ h)
+  matched_early q h = rw (eq-eqb (kind_of E e) wait q, lt-ltb _ _ h)
 
-  pub matched-later : kind_of E e ≡ wait → start_of E.levels (objectOf E e) ≤ waitsBefore E.events e
-      → nth (signalsOn E.events (objectOf E e)) (waitsBefore E.events e - start_of E.levels (objectOf E e))
+  pub matched_later : kind_of E e ≡ wait → start_of E.levels (object_of E e) ≤ waits_before E.events e
+      → nth (signals_on E.events (object_of E e)) (waits_before E.events e - start_of E.levels (object_of E e))
       ≡ matched E.levels E.events e
   unfolding matched
-  matched-later q h = rw (eq-eqb (kind_of E e) wait q, le-ltb _ _ h)
+  matched_later q h = rw (eq-eqb (kind_of E e) wait q, le-ltb _ _ h)
 
-  pub matched-other : (kind_of E e ≡ wait → ⊥) → Found.Nothing ≡ matched E.levels E.events e
+  pub matched_other : (kind_of E e ≡ wait → ⊥) → Found.Nothing ≡ matched E.levels E.events e
   unfolding matched
-  matched-other d = rw (ne_eqb (kind_of E e) wait d)
+  matched_other d = rw (ne_eqb (kind_of E e) wait d)
 
   -- a flag wait, and any other event
-  pub opened-flag : kind_of E e ≡ flagWait → take (post_of E.levels (objectOf E e)) (postsOn E.events (objectOf E e)) ≡ opened E.levels E.events e
+  pub opened_flag : kind_of E e ≡ flag_wait → take (post_of E.levels (object_of E e)) (posts_on E.events (object_of E e)) ≡ opened E.levels E.events e
   unfolding opened
-  opened-flag q = rw (eq-eqb (kind_of E e) flagWait q)
+  opened_flag q = rw (eq-eqb (kind_of E e) flag_wait q)
 
-  pub opened-other : (kind_of E e ≡ flagWait → ⊥) → opened E.levels E.events e ≡ []
+  pub opened_other : (kind_of E e ≡ flag_wait → ⊥) → opened E.levels E.events e ≡ []
   unfolding opened
-  opened-other d = rw (ne_eqb (kind_of E e) flagWait d)
+  opened_other d = rw (ne_eqb (kind_of E e) flag_wait d)

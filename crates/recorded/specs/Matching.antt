@@ -4,15 +4,15 @@
 use Rattle.std.specs.Prelude.{ℕ, ◌+◌, ◌-◌, ◌≤◌, ◌<◌, min, ◌≡◌, Bool, true, List, length, get_or}
 use Rattle.model.specs.Numbers.{tally}
 use Rattle.model.specs.Recording.{Levels, start_of, signal, wait}
-use Rattle.model.specs.File.{eventsOf}
-use Rattle.events.specs.Chains.{onAt, Nearest, head}
+use Rattle.model.specs.File.{events_of}
+use Rattle.events.specs.Chains.{on_at, Nearest, head}
 
 -- event i of the record bytes s is a signal, or a wait, on semaphore x
-abbrev pub signalAt : List ℕ → ℕ → ℕ → Bool
-signalAt s x i = onAt s signal x i
+abbrev pub signal_at : List ℕ → ℕ → ℕ → Bool
+signal_at s x i = on_at s signal x i
 
-abbrev pub waitAt : List ℕ → ℕ → ℕ → Bool
-waitAt s x i = onAt s wait x i
+abbrev pub wait_at : List ℕ → ℕ → ℕ → Bool
+wait_at s x i = on_at s wait x i
 
 -- b is the number below n that passes the test with w such numbers below it; n where there is none
 pub record AtHand (p : ℕ → Bool) (n w b : ℕ) : Type 0 where
@@ -26,6 +26,6 @@ pub record AtHand (p : ℕ → Bool) (n w b : ℕ) : Type 0 where
 pub record Matching (s : List ℕ) (levels : Levels) (e : ℕ) (unmatched chain : List ℕ) : Type 0 where
   pub places : length unmatched ≡ 64
   pub wide : length chain ≡ 2048
-  pub counted : (x : ℕ) → x < 64 → get_or unmatched x 0 ≡ min (start_of levels x) (tally (waitAt s x) e)
-  pub heads : (x : ℕ) → x < 64 → AtHand (signalAt s x) (length (eventsOf s)) (tally (waitAt s x) e - start_of levels x) (get_or chain (head x) 0)
-  pub links : (a x : ℕ) → a < length (eventsOf s) → x < 64 → signalAt s x a ≡ true → Nearest (signalAt s x) (length (eventsOf s)) (a + 1) (get_or chain a 0)
+  pub counted : (x : ℕ) → x < 64 → get_or unmatched x 0 ≡ min (start_of levels x) (tally (wait_at s x) e)
+  pub heads : (x : ℕ) → x < 64 → AtHand (signal_at s x) (length (events_of s)) (tally (wait_at s x) e - start_of levels x) (get_or chain (head x) 0)
+  pub links : (a x : ℕ) → a < length (events_of s) → x < 64 → signal_at s x a ≡ true → Nearest (signal_at s x) (length (events_of s)) (a + 1) (get_or chain a 0)

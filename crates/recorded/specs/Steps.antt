@@ -7,5 +7,5 @@ use Rattle.model.specs.Passes.{gathered}
 use Rattle.model.specs.Recorded.{causes}
 
 -- the recorded vector of e
-unfoldable pub recordedEvent : Recording → Vectors → ℕ → Vectors
-recordedEvent E X e = set X e (gathered E X (causes E.levels E.events e) e)
+unfoldable pub recorded_event : Recording → Vectors → ℕ → Vectors
+recorded_event E X e = set X e (gathered E X (causes E.levels E.events e) e)

@@ -1,17 +1,17 @@
 // The recorded run over record bytes and lent work numbers: each event's vector is made once, in file order, by step 1, for a wait
 // the signal that it is matched with, and for a flag wait the posts that opened its flag.
 ghost use Rattle.std.specs.Prelude.{◌+◌, ◌*◌, ◌≤◌, ◌<◌, ◌≡◌, [], ◌++◌, length, take, drop};
-ghost use Rattle.model.specs.File.{eventsOf, levelsBy, recordingBy};
+ghost use Rattle.model.specs.File.{events_of, levels_by, recording_by};
 ghost use Rattle.model.specs.Vectors.{flat};
-ghost use Rattle.model.specs.Passes.{postsOn};
+ghost use Rattle.model.specs.Passes.{posts_on};
 ghost use Rattle.model.specs.Recorded.{matched, opened, recorded};
-ghost use Rattle.model.specs.Reading.{mostFlags};
+ghost use Rattle.model.specs.Reading.{most_flags};
 ghost use Rattle.events.specs.Kept.{Below, Sources};
 ghost use Rattle.events.specs.Chains.{Gathered};
 ghost use Rattle.passes.specs.Lent.{Becomes, Fitting, Numbered, Records, Prepared};
 ghost use Rattle.passes.specs.Steps.{taken};
 ghost use Rattle.recorded.specs.Matching.{Matching};
-ghost use Rattle.recorded.specs.Steps.{recordedEvent};
+ghost use Rattle.recorded.specs.Steps.{recorded_event};
 
 use events::{CHAINS, SOURCES};
 use model::{Counts, FLAG_WAIT, Found, MOST_EVENTS, MOST_SEMAPHORES, POST, WAIT};
@@ -29,9 +29,9 @@ fn take_signal(
     unmatched: &mut [u16; SEMAPHORES],
     hand: &mut [u16; CHAINS],
 ) -> Found
-    requires { Records records.now counts × Numbered records.now e × Matching records.now (levelsBy counts levels.now) e unmatched.old hand.old }
-    ensures value { (result ≡ matched (levelsBy counts levels.now) (eventsOf records.now) e) × Below (length (eventsOf records.now)) result }
-    ensures cases { Matching records.now (levelsBy counts levels.now) (e + 1) unmatched.new hand.new }
+    requires { Records records.now counts × Numbered records.now e × Matching records.now (levels_by counts levels.now) e unmatched.old hand.old }
+    ensures value { (result ≡ matched (levels_by counts levels.now) (events_of records.now) e) × Below (length (events_of records.now)) result }
+    ensures cases { Matching records.now (levels_by counts levels.now) (e + 1) unmatched.new hand.new }
 {
     let w = events::event_at(records, e);
     if w.kind != WAIT {
@@ -61,8 +61,8 @@ fn follow_posts(
     most: u16,
     v: &mut [u16],
 )
-    requires { Records records.now counts × Fitting records.now counts v.old × Numbered records.now e × Gathered records.now chains.now × (g < mostFlags) }
-    ensures { Becomes (λ E X. taken counts X (take most (postsOn E.events g)) e) records.now counts [] v.old v.new }
+    requires { Records records.now counts × Fitting records.now counts v.old × Numbered records.now e × Gathered records.now chains.now × (g < most_flags) }
+    ensures { Becomes (λ E X. taken counts X (take most (posts_on E.events g)) e) records.now counts [] v.old v.new }
 {
     let n = records.len() / 4;
     let mut followed: u16 = 0;
@@ -106,10 +106,10 @@ fn record_event(
     hand: &mut [u16; CHAINS],
     v: &mut [u16],
 )
-    requires records { Records records.now counts × Fitting records.now counts v.old × Numbered records.now e × Sources (eventsOf records.now) sources.now }
-    requires gathered { Gathered records.now chains.now × Matching records.now (levelsBy counts levels.now) e unmatched.old hand.old }
-    ensures becomes { Becomes (λ E X. recordedEvent E X e) records.now counts levels.now v.old v.new }
-    ensures cases { Matching records.now (levelsBy counts levels.now) (e + 1) unmatched.new hand.new }
+    requires records { Records records.now counts × Fitting records.now counts v.old × Numbered records.now e × Sources (events_of records.now) sources.now }
+    requires gathered { Gathered records.now chains.now × Matching records.now (levels_by counts levels.now) e unmatched.old hand.old }
+    ensures becomes { Becomes (λ E X. recorded_event E X e) records.now counts levels.now v.old v.new }
+    ensures cases { Matching records.now (levels_by counts levels.now) (e + 1) unmatched.new hand.new }
 {
     passes::step_one(records, counts, sources, e, v);
     let signal = take_signal(records, counts, levels, e, unmatched, hand);
@@ -129,7 +129,7 @@ fn record_all(
     v: &mut [u16],
 )
     requires { Prepared records.now counts positions.now sources.now chains.now × Fitting records.now counts v.old }
-    ensures { v.new ≡ flat (recorded (recordingBy records.now counts levels.now)) }
+    ensures { v.new ≡ flat (recorded (recording_by records.now counts levels.now)) }
 {
     let n = records.len() / 4;
     passes::start(records, counts, positions, v);
@@ -162,9 +162,9 @@ pub fn record(
     chains: &[u16; CHAINS],
     v: &mut [u16],
 )
-    requires { Prepared records.now counts positions.now sources.now chains.now × (length (eventsOf records.now) * counts.tasks ≤ length v.old) }
-    ensures { v.new ≡ flat (recorded (recordingBy records.now counts levels.now))
-        ++ drop (length (eventsOf records.now) * counts.tasks) v.old }
+    requires { Prepared records.now counts positions.now sources.now chains.now × (length (events_of records.now) * counts.tasks ≤ length v.old) }
+    ensures { v.new ≡ flat (recorded (recording_by records.now counts levels.now))
+        ++ drop (length (events_of records.now) * counts.tasks) v.old }
 {
     let tasks = counts.tasks as usize;
     let nt = records.len() / 4 * tasks;

@@ -5,13 +5,13 @@ use Rattle.model.specs.declared.Counts.{Counts}
 use Rattle.model.specs.declared.Refusal.{Refusal}
 use Rattle.model.specs.declared.Check.{Check}
 use Rattle.model.specs.Refusals.{unless, and_then}
-use Rattle.model.specs.Recording.{size, firstFault}
-use Rattle.model.specs.File.{recordingBy}
-use Rattle.model.specs.Writing.{fileLength}
+use Rattle.model.specs.Recording.{size, first_fault}
+use Rattle.model.specs.File.{recording_by}
+use Rattle.model.specs.Writing.{file_length}
 
 -- the first faulty record, then the output's room
-unfoldable pub filingCheck : List ℕ → Counts → List ℕ → List ℕ → Check
-filingCheck s c b out =
-    and_then (let E = recordingBy s c b in firstFault E (size E)) λ _.
-    unless (leb (fileLength s b) (length out)) Refusal.Out λ _.
+unfoldable pub filing_check : List ℕ → Counts → List ℕ → List ℕ → Check
+filing_check s c b out =
+    and_then (let E = recording_by s c b in first_fault E (size E)) λ _.
+    unless (leb (file_length s b) (length out)) Refusal.Out λ _.
     Check.Passed

@@ -2,9 +2,9 @@
 -- Assumes nothing.
 use Rattle.std.specs.Prelude.{List, [], ℕ}
 use Rattle.model.specs.Refusals.{after}
-use Rattle.model.specs.File.{trailerOf, levelBytes}
-use Rattle.model.specs.Reading.{fileCheck}
+use Rattle.model.specs.File.{trailer_of, level_bytes}
+use Rattle.model.specs.Reading.{file_check}
 
 -- of a refused file, the empty part
-unfoldable pub levelPart : List ℕ → List ℕ
-levelPart f = after (fileCheck f) (λ _. levelBytes f (trailerOf f)) []
+unfoldable pub level_part : List ℕ → List ℕ
+level_part f = after (file_check f) (λ _. level_bytes f (trailer_of f)) []

@@ -1,8 +1,8 @@
 // Reading a file: its trailer, or its refusal, and the parts of it.
 ghost use Rattle.std.specs.Prelude.{◌≡◌, ◌+◌, ◌≤◌, ◌<◌, length};
-ghost use Rattle.model.specs.File.{u32_at, trailerOf};
-ghost use Rattle.model.specs.Reading.{reading_of, preambleOf, recordsOf, startsOf, postsOf};
-ghost use Rattle.recording.specs.Parts.{levelPart};
+ghost use Rattle.model.specs.File.{u32_at, trailer_of};
+ghost use Rattle.model.specs.Reading.{reading_of, preamble_of, records_of, starts_of, posts_of};
+ghost use Rattle.recording.specs.Parts.{level_part};
 
 use model::{Check, Counts, Reading, Refusal, Trailer};
 use rules::{first_fault, in_range, known_edition, posts_up};
@@ -17,7 +17,7 @@ fn u32_at(s: &[u8], i: usize) -> usize
 
 fn trailer_of(file: &[u8]) -> Trailer
     requires { 16 ≤ length file.now }
-    ensures { (result ≡ trailerOf file.now) × (result.start < 4294967296) × (result.records < 4294967296) }
+    ensures { (result ≡ trailer_of file.now) × (result.start < 4294967296) × (result.records < 4294967296) }
 {
     let t = file.len() - 16;
     Trailer {
@@ -64,7 +64,7 @@ pub fn read(file: &[u8]) -> Reading
 
 // The part of the file before the first record; of a refused file, the empty part.
 pub fn preamble(file: &[u8]) -> &[u8]
-    ensures { result.now ≡ preambleOf file.now }
+    ensures { result.now ≡ preamble_of file.now }
 {
     match read(file) {
         Reading::Accepted(h) => {
@@ -77,7 +77,7 @@ pub fn preamble(file: &[u8]) -> &[u8]
 
 // The records' part of the file; of a refused file, the empty part.
 pub fn records(file: &[u8]) -> &[u8]
-    ensures { result.now ≡ recordsOf file.now }
+    ensures { result.now ≡ records_of file.now }
 {
     match read(file) {
         Reading::Accepted(h) => events::records_of(file, h),
@@ -87,7 +87,7 @@ pub fn records(file: &[u8]) -> &[u8]
 
 // The level bytes of the file: start bytes, then post bytes; of a refused file, none.
 fn levels(file: &[u8]) -> &[u8]
-    ensures { result.now ≡ levelPart file.now }
+    ensures { result.now ≡ level_part file.now }
 {
     match read(file) {
         Reading::Accepted(h) => events::levels_of(file, h),
@@ -97,7 +97,7 @@ fn levels(file: &[u8]) -> &[u8]
 
 // The counts in the file's trailer; where there is none, all 0.
 fn counts_of(file: &[u8]) -> Counts
-    ensures { 16 ≤ length file.now → result ≡ (trailerOf file.now).counts }
+    ensures { 16 ≤ length file.now → result ≡ (trailer_of file.now).counts }
 {
     if file.len() < 16 {
         return Counts {
@@ -113,14 +113,14 @@ fn counts_of(file: &[u8]) -> Counts
 
 // The start bytes of the file, one for each semaphore; of a refused file, as of edition 1, the empty part.
 pub fn starts(file: &[u8]) -> &[u8]
-    ensures { result.now ≡ startsOf file.now }
+    ensures { result.now ≡ starts_of file.now }
 {
     events::start_bytes(levels(file), counts_of(file))
 }
 
 // The post bytes of the file, one for each flag; of a refused file, as of editions 1 and 2, the empty part.
 pub fn posts(file: &[u8]) -> &[u8]
-    ensures { result.now ≡ postsOf file.now }
+    ensures { result.now ≡ posts_of file.now }
 {
     events::post_bytes(levels(file), counts_of(file))
 }

@@ -2,8 +2,8 @@
 ghost use Rattle.std.specs.Prelude.{◌≡◌, true, ◌++◌, ◌+◌, ◌/◌, ◌≤◌, length, take, drop};
 ghost use Rattle.model.specs.Refusals.{after};
 ghost use Rattle.model.specs.Reading.{in_range};
-ghost use Rattle.model.specs.Writing.{fileOf, fileLength, levelsFit, lentCheck, written_by, written_of, outAfterWriting};
-ghost use Rattle.recording.specs.Filing.{filingCheck};
+ghost use Rattle.model.specs.Writing.{file_of, file_length, levels_fit, lent_check, written_by, written_of, out_after_writing};
+ghost use Rattle.recording.specs.Filing.{filing_check};
 
 use model::{Check, Counts, Refusal, Written};
 use rules::{first_fault, in_range, known_edition, posts_up};
@@ -13,7 +13,7 @@ const LEVELS: usize = 128;
 
 // Whether the start bytes and the post bytes are as many as the edition takes.
 fn levels_fit(counts: Counts, starts: &[u8], posts: &[u8]) -> bool
-    ensures { result ≡ levelsFit counts starts.now posts.now }
+    ensures { result ≡ levels_fit counts starts.now posts.now }
 {
     let semaphores = events::start_count(counts);
     let flags = events::flags(counts) as usize;
@@ -22,7 +22,7 @@ fn levels_fit(counts: Counts, starts: &[u8], posts: &[u8]) -> bool
 
 // The checks of the counts and of the lent bytes: 2, 3, 4, 13.
 fn lent_check(records: &[u8], counts: Counts, starts: &[u8], posts: &[u8]) -> Check
-    ensures { result ≡ lentCheck records.now counts starts.now posts.now }
+    ensures { result ≡ lent_check records.now counts starts.now posts.now }
 {
     if !known_edition(counts) {
         return Check::Failed(Refusal::Edition);
@@ -55,7 +55,7 @@ fn join_levels(starts: &[u8], posts: &[u8]) -> [u8; LEVELS]
 // The checks of what the file would hold, and whether the output has room for it.
 fn filing_check(records: &[u8], counts: Counts, levels: &[u8], out: &[u8]) -> Check
     requires { (in_range counts (length records.now / 4) ≡ true) × (length levels.now ≤ 128) }
-    ensures { result ≡ filingCheck records.now counts levels.now out.now }
+    ensures { result ≡ filing_check records.now counts levels.now out.now }
 {
     let check = first_fault(records, counts, levels, records.len() / 4);
     if let Check::Failed(r) = check {
@@ -70,10 +70,10 @@ fn filing_check(records: &[u8], counts: Counts, levels: &[u8], out: &[u8]) -> Ch
 // Makes these checks, and writes the file where they pass.
 fn write_checked(records: &[u8], counts: Counts, levels: &[u8], out: &mut [u8]) -> Written
     requires { (in_range counts (length records.now / 4) ≡ true) × (length levels.now ≤ 128) }
-    ensures value { result ≡ written_by (fileLength records.now levels.now)
-        (filingCheck records.now counts levels.now out.old) }
-    ensures out_after { out.new ≡ after (filingCheck records.now counts levels.now out.old)
-        (λ _. fileOf records.now counts levels.now ++ drop (fileLength records.now levels.now) out.old)
+    ensures value { result ≡ written_by (file_length records.now levels.now)
+        (filing_check records.now counts levels.now out.old) }
+    ensures out_after { out.new ≡ after (filing_check records.now counts levels.now out.old)
+        (λ _. file_of records.now counts levels.now ++ drop (file_length records.now levels.now) out.old)
         out.old }
 {
     match filing_check(records, counts, levels, out) {
@@ -99,7 +99,7 @@ pub fn write(
 ) -> Written
     ensures value { result ≡ written_of records.now (record { tasks = tasks; semaphores = semaphores; cells = cells; edition = edition })
         starts.now posts.now out.old }
-    ensures out_after { out.new ≡ outAfterWriting records.now (record { tasks = tasks; semaphores = semaphores; cells = cells; edition = edition })
+    ensures out_after { out.new ≡ out_after_writing records.now (record { tasks = tasks; semaphores = semaphores; cells = cells; edition = edition })
         starts.now posts.now out.old }
 {
     let counts = Counts {

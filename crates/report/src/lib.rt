@@ -1,6 +1,6 @@
 // What the program prints, as bytes in a lent output.
 ghost use Rattle.std.specs.Prelude.{◌≡◌};
-ghost use Rattle.model.specs.Report.{reportOf, workAfterReporting, listAfterReporting, laid, filling};
+ghost use Rattle.model.specs.Report.{report_of, work_after_reporting, list_after_reporting, laid, filling};
 
 use model::MOST_BYTES;
 
@@ -8,10 +8,10 @@ use model::MOST_BYTES;
 // of a refusal, or `too long`. It is put at the start of the output, and what does not fit is left
 // off; the answer is how many bytes were put. Work numbers and list are left as after analysing.
 pub fn report(file: &[u8], work: &mut [u16], list: &mut [u16], out: &mut [u8]) -> usize
-    ensures value { result ≡ filling (reportOf file.now work.old list.old) out.old }
-    ensures out_after { out.new ≡ laid (reportOf file.now work.old list.old) out.old }
-    ensures work_after { work.new ≡ workAfterReporting file.now work.old }
-    ensures list_after { list.new ≡ listAfterReporting file.now work.old list.old }
+    ensures value { result ≡ filling (report_of file.now work.old list.old) out.old }
+    ensures out_after { out.new ≡ laid (report_of file.now work.old list.old) out.old }
+    ensures work_after { work.new ≡ work_after_reporting file.now work.old }
+    ensures list_after { list.new ≡ list_after_reporting file.now work.old list.old }
 {
     if MOST_BYTES < file.len() {
         return printing::output::put_text(out, 0, b"too long\n");

@@ -5,31 +5,31 @@ use Rattle.model.specs.declared.Counts.{Counts}
 use Rattle.model.specs.declared.Written.{Written}
 use Rattle.model.specs.Numbers.{picked}
 use Rattle.model.specs.Refusals.{after}
-use Rattle.model.specs.File.{eventsOf}
-use Rattle.model.specs.Vectors.{Vectors, atOrBefore}
-use Rattle.model.specs.Writing.{fileIn, fileLength, written_by}
-use Rattle.model.specs.Reversed.{bringForward, forwardCheck, reversedOf, workAfterReversing, outAfterReversing}
-use Rattle.passes.specs.Lent.{vectorsIn}
+use Rattle.model.specs.File.{events_of}
+use Rattle.model.specs.Vectors.{Vectors, at_or_before}
+use Rattle.model.specs.Writing.{file_in, file_length, written_by}
+use Rattle.model.specs.Reversed.{bring_forward, forward_check, reversed_of, work_after_reversing, out_after_reversing}
+use Rattle.passes.specs.Lent.{vectors_in}
 
 -- the vectors v put event a at or before x, or else they do not
-abbrev pub onSide : List ℕ → Counts → List ℕ → ℕ → Bool → ℕ → Bool
-onSide s c v x true a = atOrBefore (eventsOf s) (vectorsIn s c v) a x
-onSide s c v x false a = not (atOrBefore (eventsOf s) (vectorsIn s c v) a x)
+abbrev pub on_side : List ℕ → Counts → List ℕ → ℕ → Bool → ℕ → Bool
+on_side s c v x true a = at_or_before (events_of s) (vectors_in s c v) a x
+on_side s c v x false a = not (at_or_before (events_of s) (vectors_in s c v) a x)
 
 -- the events for which they do, or else the others, in file order
 abbrev pub side_of : List ℕ → Counts → List ℕ → ℕ → Bool → List ℕ
-side_of s c v x first = picked (onSide s c v x first) (length (eventsOf s))
+side_of s c v x first = picked (on_side s c v x first) (length (events_of s))
 
 -- what writing the records with x brought forward by the vectors X answers, and what it leaves in the output
-abbrev pub forwardOf : List ℕ → List ℕ → Vectors → ℕ → ℕ → List ℕ → Written
-forwardOf s b X x y out = written_by (fileLength s b) (forwardCheck (eventsOf s) X x y (fileLength s b) out)
+abbrev pub forward_of : List ℕ → List ℕ → Vectors → ℕ → ℕ → List ℕ → Written
+forward_of s b X x y out = written_by (file_length s b) (forward_check (events_of s) X x y (file_length s b) out)
 
-abbrev pub forwardOut : List ℕ → Counts → List ℕ → Vectors → ℕ → ℕ → List ℕ → List ℕ
-forwardOut s c b X x y out =
-    after (forwardCheck (eventsOf s) X x y (fileLength s b) out) (λ _. fileIn s (bringForward (eventsOf s) X x) c b ++ drop (fileLength s b) out) out
+abbrev pub forward_out : List ℕ → Counts → List ℕ → Vectors → ℕ → ℕ → List ℕ → List ℕ
+forward_out s c b X x y out =
+    after (forward_check (events_of s) X x y (file_length s b) out) (λ _. file_in s (bring_forward (events_of s) X x) c b ++ drop (file_length s b) out) out
 
 -- the call on the events x and y of the file f answers a, and leaves w' in the work numbers w and o' in the output o
 pub record Reversed (f : List ℕ) (x y : ℕ) (w o : List ℕ) (a : Written) (w' o' : List ℕ) : Type 0 where
-  pub answer : a ≡ reversedOf f x y w o
-  pub work : w' ≡ workAfterReversing f x y w
-  pub out : o' ≡ outAfterReversing f x y w o
+  pub answer : a ≡ reversed_of f x y w o
+  pub work : w' ≡ work_after_reversing f x y w
+  pub out : o' ≡ out_after_reversing f x y w o

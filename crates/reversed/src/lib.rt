@@ -2,11 +2,11 @@
 // comes earlier than another one.
 ghost use Rattle.std.specs.Prelude.{◌≡◌, ◌+◌, ◌/◌, ◌≤◌, length, take};
 ghost use Rattle.std.proofs.lemmas.List.Edits.{sets};
-ghost use Rattle.model.specs.File.{eventsOf};
-ghost use Rattle.model.specs.Reading.{reading_of, mostEvents, mostSemaphores, mostFlags};
-ghost use Rattle.model.specs.Reversed.{bringForward, reversedOf, workAfterReversing, outAfterReversing};
-ghost use Rattle.passes.specs.Lent.{vectorsIn, Fitting, Numbered, Placed};
-ghost use Rattle.reversed.specs.Lent.{onSide, side_of, forwardOf, forwardOut, Reversed};
+ghost use Rattle.model.specs.File.{events_of};
+ghost use Rattle.model.specs.Reading.{reading_of, most_events, most_semaphores, most_flags};
+ghost use Rattle.model.specs.Reversed.{bring_forward, reversed_of, work_after_reversing, out_after_reversing};
+ghost use Rattle.passes.specs.Lent.{vectors_in, Fitting, Numbered, Placed};
+ghost use Rattle.reversed.specs.Lent.{on_side, side_of, forward_of, forward_out, Reversed};
 
 use model::{Check, Counts, MOST_EVENTS, Reading, Refusal, Trailer, Written};
 
@@ -22,7 +22,7 @@ fn on_side(
 ) -> bool
     requires placed { Placed records.now counts positions.now × Fitting records.now counts v.now }
     requires numbered { Numbered records.now a × Numbered records.now x }
-    ensures { result ≡ onSide records.now counts v.now x first a }
+    ensures { result ≡ on_side records.now counts v.now x first a }
 {
     let before = passes::at_or_before(records, counts, positions, v, a, x);
     if first {
@@ -44,7 +44,7 @@ fn put_side(
     at: usize,
 ) -> usize
     requires placed { Placed records.now counts positions.now × Fitting records.now counts v.now × Numbered records.now x }
-    requires first_bound { at + length (side_of records.now counts v.now x first) ≤ mostEvents }
+    requires first_bound { at + length (side_of records.now counts v.now x first) ≤ most_events }
     ensures order_after { order.new ≡ sets order.old at (side_of records.now counts v.now x first) }
     ensures value { result ≡ at + length (side_of records.now counts v.now x first) }
 {
@@ -70,7 +70,7 @@ fn bring_forward(
     x: usize,
 ) -> [u16; MOST_EVENTS]
     requires { Placed records.now counts positions.now × Fitting records.now counts v.now × Numbered records.now x }
-    ensures { take (length records.now / 4) result ≡ bringForward (eventsOf records.now) (vectorsIn records.now counts v.now) x }
+    ensures { take (length records.now / 4) result ≡ bring_forward (events_of records.now) (vectors_in records.now counts v.now) x }
 {
     let mut order = [0u16; MOST_EVENTS];
     let at = put_side(records, counts, positions, v, x, true, &mut order, 0);
@@ -89,10 +89,10 @@ fn write_forward(
     other: usize,
     out: &mut [u8],
 ) -> Written
-    requires placed { Placed records.now counts positions.now × Fitting records.now counts recorded.now × (length levels.now ≤ mostSemaphores + mostFlags) }
+    requires placed { Placed records.now counts positions.now × Fitting records.now counts recorded.now × (length levels.now ≤ most_semaphores + most_flags) }
     requires numbered { Numbered records.now chosen × Numbered records.now other }
-    ensures value { result ≡ forwardOf records.now levels.now (vectorsIn records.now counts recorded.now) chosen other out.old }
-    ensures out_after { out.new ≡ forwardOut records.now counts levels.now (vectorsIn records.now counts recorded.now) chosen other out.old }
+    ensures value { result ≡ forward_of records.now levels.now (vectors_in records.now counts recorded.now) chosen other out.old }
+    ensures out_after { out.new ≡ forward_out records.now counts levels.now (vectors_in records.now counts recorded.now) chosen other out.old }
 {
     if !pairs::unordered(records, counts, positions, recorded, chosen, other) {
         return Written::Refused(Refusal::Unsure);
@@ -145,9 +145,9 @@ pub fn write_reversed(
     work: &mut [u16],
     out: &mut [u8],
 ) -> Written
-    ensures value { result ≡ reversedOf file.now chosen other work.old out.old }
-    ensures work_after { work.new ≡ workAfterReversing file.now chosen other work.old }
-    ensures out_after { out.new ≡ outAfterReversing file.now chosen other work.old out.old }
+    ensures value { result ≡ reversed_of file.now chosen other work.old out.old }
+    ensures work_after { work.new ≡ work_after_reversing file.now chosen other work.old }
+    ensures out_after { out.new ≡ out_after_reversing file.now chosen other work.old out.old }
 {
     match recording::read(file) {
         Reading::Accepted(trailer) => reverse_read(file, trailer, chosen, other, work, out),

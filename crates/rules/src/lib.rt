@@ -3,24 +3,24 @@ ghost use Rattle.std.specs.Prelude.{◌≡◌, true, List, ℕ, ◌*◌, ◌≤�
 ghost use Rattle.model.specs.declared.Event.{Event};
 ghost use Rattle.model.specs.Numbers.{count};
 ghost use Rattle.model.specs.Recording.{
-  ofTask,
-  isOn,
+  of_task,
+  is_on,
   class_of,
   names_of,
-  lastKind,
-  knownKind,
+  last_kind,
+  known_kind,
   named,
-  forkKept,
-  joinKept,
-  lifeKept,
-  waitKept,
-  flagKept,
-  recordCheck,
-  firstFault,
+  fork_kept,
+  join_kept,
+  life_kept,
+  wait_kept,
+  flag_kept,
+  record_check,
+  first_fault,
 };
-ghost use Rattle.model.specs.File.{levelsBy, recordingBy};
-ghost use Rattle.model.specs.Reading.{knownEdition, in_range, postsUp};
-ghost use Rattle.rules.specs.Running.{places, Counted, Few, Small, Running, Room, notedOn, notedOwn};
+ghost use Rattle.model.specs.File.{levels_by, recording_by};
+ghost use Rattle.model.specs.Reading.{known_edition, in_range, posts_up};
+ghost use Rattle.rules.specs.Running.{places, Counted, Few, Small, Running, Room, noted_on, noted_own};
 
 use model::{
     Check, Class, Counts, Event, FLAG_WAIT, FORK, JOIN, LAST_EDITION, MOST_CELLS, MOST_EVENTS,
@@ -75,7 +75,7 @@ fn names_of(counts: Counts, class: Class) -> u16
 
 // Whether the edition is one that is read and written.
 pub fn known_edition(counts: Counts) -> bool
-    ensures { result ≡ knownEdition counts }
+    ensures { result ≡ known_edition counts }
 {
     (1 <= counts.edition) & (counts.edition <= LAST_EDITION)
 }
@@ -96,7 +96,7 @@ pub fn in_range(counts: Counts, n: usize) -> bool
 
 // Whether no post count is 0.
 pub fn posts_up(posts: &[u8]) -> bool
-    ensures { result ≡ postsUp posts.now }
+    ensures { result ≡ posts_up posts.now }
 {
     let mut i = 0;
     while i < posts.len() {
@@ -110,7 +110,7 @@ pub fn posts_up(posts: &[u8]) -> bool
 
 // The last kind of these counts' edition.
 fn last_kind(counts: Counts) -> u8
-    ensures { result ≡ lastKind counts }
+    ensures { result ≡ last_kind counts }
 {
     if counts.edition == WITH_FLAGS {
         return SINGLE_WRITE;
@@ -119,7 +119,7 @@ fn last_kind(counts: Counts) -> u8
 }
 
 fn known_kind(counts: Counts, v: Event) -> bool
-    ensures { result ≡ knownKind counts v }
+    ensures { result ≡ known_kind counts v }
 {
     let last = last_kind(counts);
     (SIGNAL <= v.kind) & (v.kind <= last)
@@ -138,7 +138,7 @@ fn is_named(counts: Counts, v: Event) -> bool
 // How many events of this kind on this object there have been.
 fn count_on(on: &[u16; COUNTED], kind: u8, object: u16) -> u16
     requires { Counted kind × (object < places) }
-    ensures { (before : List Event) (own : List ℕ) → Running before on.now own → result ≡ count (isOn kind object) before }
+    ensures { (before : List Event) (own : List ℕ) → Running before on.now own → result ≡ count (is_on kind object) before }
 {
     on[PLACES * (kind as usize) + (object as usize)]
 }
@@ -146,7 +146,7 @@ fn count_on(on: &[u16; COUNTED], kind: u8, object: u16) -> u16
 // How many events of this task there have been.
 fn count_own(own: &[u16; PLACES], task: u16) -> u16
     requires { task < places }
-    ensures { (before : List Event) (on : List ℕ) → Running before on own.now → result ≡ count (ofTask task) before }
+    ensures { (before : List Event) (on : List ℕ) → Running before on own.now → result ≡ count (of_task task) before }
 {
     own[task as usize]
 }
@@ -154,7 +154,7 @@ fn count_own(own: &[u16; PLACES], task: u16) -> u16
 // Whether the event keeps the rule on forks.
 fn fork_kept(on: &[u16; COUNTED], own: &[u16; PLACES], v: Event) -> bool
     requires { Small v }
-    ensures { (before : List Event) → Running before on.now own.now → result ≡ forkKept before v }
+    ensures { (before : List Event) → Running before on.now own.now → result ≡ fork_kept before v }
 {
     if v.kind != FORK {
         return true;
@@ -171,7 +171,7 @@ fn fork_kept(on: &[u16; COUNTED], own: &[u16; PLACES], v: Event) -> bool
 // The same for the rule on joins.
 fn join_kept(on: &[u16; COUNTED], v: Event) -> bool
     requires { Small v }
-    ensures { (before : List Event) (own : List ℕ) → Running before on.now own → result ≡ joinKept before v }
+    ensures { (before : List Event) (own : List ℕ) → Running before on.now own → result ≡ join_kept before v }
 {
     if v.kind != JOIN {
         return true;
@@ -188,7 +188,7 @@ fn join_kept(on: &[u16; COUNTED], v: Event) -> bool
 // The same for the three rules on a task's life.
 fn life_kept(on: &[u16; COUNTED], own: &[u16; PLACES], v: Event) -> bool
     requires { Small v }
-    ensures { (before : List Event) → Running before on.now own.now → result ≡ lifeKept before v }
+    ensures { (before : List Event) → Running before on.now own.now → result ≡ life_kept before v }
 {
     if count_on(on, JOIN, v.task as u16) != 0 {
         return false;
@@ -203,7 +203,7 @@ fn life_kept(on: &[u16; COUNTED], own: &[u16; PLACES], v: Event) -> bool
 fn wait_kept(on: &[u16; COUNTED], counts: Counts, levels: &[u8], v: Event) -> bool
     requires { Small v }
     ensures { (before : List Event) (own : List ℕ) → Running before on.now own
-        → result ≡ waitKept (levelsBy counts levels.now) before v }
+        → result ≡ wait_kept (levels_by counts levels.now) before v }
 {
     if v.kind != WAIT {
         return true;
@@ -221,7 +221,7 @@ fn wait_kept(on: &[u16; COUNTED], counts: Counts, levels: &[u8], v: Event) -> bo
 fn flag_kept(on: &[u16; COUNTED], counts: Counts, levels: &[u8], v: Event) -> bool
     requires { Small v }
     ensures { (before : List Event) (own : List ℕ) → Running before on.now own
-        → result ≡ flagKept (levelsBy counts levels.now) before v }
+        → result ≡ flag_kept (levels_by counts levels.now) before v }
 {
     if v.kind != FLAG_WAIT {
         return true;
@@ -240,7 +240,7 @@ fn record_check(
 ) -> Check
     requires { Few counts }
     ensures { (before : List Event) → Running before on.now own.now → length before ≡ n
-        → result ≡ recordCheck counts (levelsBy counts levels.now) before v }
+        → result ≡ record_check counts (levels_by counts levels.now) before v }
 {
     if !known_kind(counts, v) {
         return Check::Failed(Refusal::Kind(n));
@@ -263,8 +263,8 @@ fn record_check(
 // Adds the event to the counts of its kind and object, and to those of its task.
 fn note(on: &mut [u16; COUNTED], own: &mut [u16; PLACES], v: Event)
     requires { Small v × Room on.old own.old v }
-    ensures on_after { on.new ≡ notedOn on.old v }
-    ensures own_after { own.new ≡ notedOwn own.old v }
+    ensures on_after { on.new ≡ noted_on on.old v }
+    ensures own_after { own.new ≡ noted_own own.old v }
 {
     let task = v.task as usize;
     own[task] += 1;
@@ -277,7 +277,7 @@ fn note(on: &mut [u16; COUNTED], own: &mut [u16; PLACES], v: Event)
 // The first faulty record among the first n.
 pub fn first_fault(records: &[u8], counts: Counts, levels: &[u8], n: usize) -> Check
     requires { (4 * n ≤ length records.now) × (in_range counts n ≡ true) }
-    ensures { result ≡ firstFault (recordingBy records.now counts levels.now) n }
+    ensures { result ≡ first_fault (recording_by records.now counts levels.now) n }
 {
     let mut on = [0u16; COUNTED];
     let mut own = [0u16; PLACES];

@@ -6,20 +6,20 @@ use mathlib.Core.Path.{◌≡◌, refl, ap}
 use mathlib.Core.Bool.{Bool, true, false}
 use native.Mathlib.Omega.{arith}
 use Rattle.model.specs.Recording.{Recording, Accepted}
-use Rattle.model.specs.Orders.{fileOrder}
+use Rattle.model.specs.Orders.{file_order}
 use Rattle.model.specs.Vectors.{Vectors}
-use Rattle.model.specs.Passes.{Run, safeVectors}
+use Rattle.model.specs.Passes.{Run, safe_vectors}
 use Rattle.model.proofs.Tests.{clash, fails}
-use Rattle.model.proofs.Climb.{settled-stays, budget-up}
-use Rattle.model.proofs.Rise.{run-rises}
-use Rattle.model.proofs.Listed.{ordered-more}
-use Rattle.model.proofs.FileOrder.{file-admissible}
-use Rattle.model.proofs.Promise.{ordered-always}
-use Rattle.model.proofs.Files.{accepted-recording}
+use Rattle.model.proofs.Climb.{settled_stays, budget_up}
+use Rattle.model.proofs.Rise.{run_rises}
+use Rattle.model.proofs.Listed.{ordered_more}
+use Rattle.model.proofs.FileOrder.{file_admissible}
+use Rattle.model.proofs.Promise.{ordered_always}
+use Rattle.model.proofs.Files.{accepted_recording}
 use Rattle.stretches.specs.declared.Stretch.{Stretch}
-use Rattle.stretches.specs.Stretches.{leadNumber, before, leadWhere, leadOf, twoStretches}
+use Rattle.stretches.specs.Stretches.{lead_number, before, lead_where, lead_of, two_stretches}
 use Rattle.stretches.specs.AllEvents.{Answers, AllOrdered, StretchPromise, StretchPromised}
-use Rattle.stretches.proofs.Events.{before-all, all-before, first-event, last-event, first-within, last_within, parted}
+use Rattle.stretches.proofs.Events.{before_all, all_before, first_event, last_event_lem, first_within, last_within, parted}
 use Rattle.stretches.proofs.Ends.{both_ends}
 
 -- ---- the answer by its tests: r is before s, and s before r
@@ -30,15 +30,15 @@ record Told (p q : Bool) (n : ℕ) : Type 0 where
   second : n ≡ 2 → q ≡ true
   neither : n ≡ 3 → (p ≡ false) × (q ≡ false)
 
-told : (p q : Bool) → Told p q (leadNumber (leadWhere p q))
+told : (p q : Bool) → Told p q (lead_number (lead_where p q))
 told true q = record { first = λ h. refl; second = λ h. absurd (omega (arith, h)); neither = λ h. absurd (omega (arith, h)) }
 told false true = record { first = λ h. absurd (omega (arith, h)); second = λ h. refl; neither = λ h. absurd (omega (arith, h)) }
 told false false = record { first = λ h. absurd (omega (arith, h)); second = λ h. absurd (omega (arith, h)); neither = λ h. (refl, refl) }
 
-module _ (E : Recording) (acc : Accepted E) (r s : Stretch) (two : twoStretches E r s ≡ true) where
+module _ (E : Recording) (acc : Accepted E) (r s : Stretch) (two : two_stretches E r s ≡ true) where
   module _ (budget : ℕ) where
     abbrev safe : Vectors
-    safe = safeVectors E budget
+    safe = safe_vectors E budget
 
     abbrev there : Bool
     there = before E.events safe r s
@@ -46,69 +46,69 @@ module _ (E : Recording) (acc : Accepted E) (r s : Stretch) (two : twoStretches 
     abbrev back : Bool
     back = before E.events safe s r
 
-    tells : Told there back (leadNumber (leadOf E r s budget))
-    unfolding leadOf
+    tells : Told there back (lead_number (lead_of E r s budget))
+    unfolding lead_of
     tells = told there back
 
     -- an event of r and one of s are not each ordered before the other, as the file's own order shows
     one_way : back ≡ true → there ≡ false
     one_way q =
         let k = parted E r s two in
-        let (a, e) = last-event E.events r k.left in
-        let (b, f) = first-event E.events s k.right in
+        let (a, e) = last_event_lem E.events r k.left in
+        let (b, f) = first_event E.events s k.right in
         let p = last_within E.events r k.left a e in
-        let t = first-within E.events s k.right b f in
+        let t = first_within E.events s k.right b f in
         fails there
         (λ h.
-        let x = ordered-always E acc budget a b e.inside f.inside (before-all E.events safe r s h a b e.inside p f.inside t) in
-        let y = ordered-always E acc budget b a f.inside e.inside (before-all E.events safe s r q b a f.inside t e.inside p) in
-        let file = file-admissible E acc in
-        let i = x (fileOrder E) file in
-        let j = y (fileOrder E) file in omega arith)
+        let x = ordered_always E acc budget a b e.inside f.inside (before_all E.events safe r s h a b e.inside p f.inside t) in
+        let y = ordered_always E acc budget b a f.inside e.inside (before_all E.events safe s r q b a f.inside t e.inside p) in
+        let file = file_admissible E acc in
+        let i = x (file_order E) file in
+        let j = y (file_order E) file in omega arith)
 
     first_says : Answers E r s budget 1 → AllOrdered E.events safe r s
-    first_says h = before-all E.events safe r s (tells.first h)
+    first_says h = before_all E.events safe r s (tells.first h)
 
-    say-first : AllOrdered E.events safe r s → Answers E r s budget 1
-    unfolding leadOf
-    say-first h = rw (all-before E.events safe r s h)
+    say_first : AllOrdered E.events safe r s → Answers E r s budget 1
+    unfolding lead_of
+    say_first h = rw (all_before E.events safe r s h)
 
-    second-says : Answers E r s budget 2 → AllOrdered E.events safe s r
-    second-says h = before-all E.events safe s r (tells.second h)
+    second_says : Answers E r s budget 2 → AllOrdered E.events safe s r
+    second_says h = before_all E.events safe s r (tells.second h)
 
-    say-second : AllOrdered E.events safe s r → Answers E r s budget 2
-    unfolding leadOf
-    say-second h = let q = all-before E.events safe s r h in rw (one_way q, q)
+    say_second : AllOrdered E.events safe s r → Answers E r s budget 2
+    unfolding lead_of
+    say_second h = let q = all_before E.events safe s r h in rw (one_way q, q)
 
-    neither-says : Answers E r s budget 3 → ¬ (AllOrdered E.events safe r s) × ¬ (AllOrdered E.events safe s r)
-    neither-says h =
+    neither_says : Answers E r s budget 3 → ¬ (AllOrdered E.events safe r s) × ¬ (AllOrdered E.events safe s r)
+    neither_says h =
         let (p, q) = tells.neither h in
-        (λ x. clash (all-before E.events safe r s x) p, λ x. clash (all-before E.events safe s r x) q)
+        (λ x. clash (all_before E.events safe r s x) p, λ x. clash (all_before E.events safe s r x) q)
 
-    say-neither : ¬ (AllOrdered E.events safe r s) × ¬ (AllOrdered E.events safe s r) → Answers E r s budget 3
-    unfolding leadOf
-    say-neither h = rw (fails there (λ t. h.0 (before-all E.events safe r s t)), fails back (λ t. h.1 (before-all E.events safe s r t)))
+    say_neither : ¬ (AllOrdered E.events safe r s) × ¬ (AllOrdered E.events safe s r) → Answers E r s budget 3
+    unfolding lead_of
+    say_neither h = rw (fails there (λ t. h.0 (before_all E.events safe r s t)), fails back (λ t. h.1 (before_all E.events safe s r t)))
 
   -- what one budget orders, a larger one does
-  all_more : (b d : ℕ) → b ≤ d → (p q : Stretch) → AllOrdered E.events (safeVectors E b) p q → AllOrdered E.events (safeVectors E d) p q
-  all_more b d h p q k x y i u j v = ordered-more E (safeVectors E b) (safeVectors E d) (budget-up E b d h) x y (k x y i u j v)
+  all_more : (b d : ℕ) → b ≤ d → (p q : Stretch) → AllOrdered E.events (safe_vectors E b) p q → AllOrdered E.events (safe_vectors E d) p q
+  all_more b d h p q k x y i u j v = ordered_more E (safe_vectors E b) (safe_vectors E d) (budget_up E b d h) x y (k x y i u j v)
 
   promise : (budget : ℕ) → StretchPromise E r s budget
-  unfolding leadOf
+  unfolding lead_of
   promise b =
-      let (one, other) = both_ends E (safe b) (run-rises E b) r s two in
+      let (one, other) = both_ends E (safe b) (run_rises E b) r s two in
       record {
-        first = (first_says b, say-first b);
-        second = (second-says b, say-second b);
-        neither = (neither-says b, say-neither b);
-        first-always = λ h x y i p j q. ordered-always E acc b x y i j (first_says b h x y i p j q);
-        second-always = λ h x y i p j q. ordered-always E acc b x y i j (second-says b h x y i p j q);
-        keeps-first = λ d h k. say-first d (all_more b d h r s (first_says b k));
-        keeps-second = λ d h k. say-second d (all_more b d h s r (second-says b k));
-        keeps-answer = λ q d h. ap (λ (m : Run). let X = m.vectors in leadWhere (before E.events X r s) (before E.events X s r)) (settled-stays E b d h q);
+        first = (first_says b, say_first b);
+        second = (second_says b, say_second b);
+        neither = (neither_says b, say_neither b);
+        first_always = λ h x y i p j q. ordered_always E acc b x y i j (first_says b h x y i p j q);
+        second_always = λ h x y i p j q. ordered_always E acc b x y i j (second_says b h x y i p j q);
+        keeps_first = λ d h k. say_first d (all_more b d h r s (first_says b k));
+        keeps_second = λ d h k. say_second d (all_more b d h s r (second_says b k));
+        keeps_answer = λ q d h. ap (λ (m : Run). let X = m.vectors in lead_where (before E.events X r s) (before E.events X s r)) (settled_stays E b d h q);
         first_ends = one;
-        second-ends = other;
+        second_ends = other;
       }
 
-pub stretch-promise : StretchPromised
-stretch-promise f h q r s two budget = promise _ (accepted-recording f h q) r s two budget
+pub stretch_promise : StretchPromised
+stretch_promise f h q r s two budget = promise _ (accepted_recording f h q) r s two budget

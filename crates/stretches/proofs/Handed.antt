@@ -8,39 +8,39 @@ use native.Mathlib.Omega.{arith}
 use Rattle.model.specs.declared.Refusal.{Refusal}
 use Rattle.model.specs.declared.Check.{Check}
 use Rattle.model.specs.Recording.{Recording}
-use Rattle.model.specs.File.{trailerOf, recordingOf}
-use Rattle.model.specs.Reading.{fileCheck, reading_of}
-use Rattle.model.specs.Analysing.{workFits, workCheck, workAfterAnalysing}
-use Rattle.model.proofs.Checks.{unless-passed, then-passed}
+use Rattle.model.specs.File.{trailer_of, recording_of}
+use Rattle.model.specs.Reading.{file_check, reading_of}
+use Rattle.model.specs.Analysing.{work_fits, work_check, work_after_analysing}
+use Rattle.model.proofs.Checks.{unless_passed, then_passed}
 use Rattle.stretches.specs.declared.Stretch.{Stretch}
 use Rattle.stretches.specs.declared.Lead.{Lead}
 use Rattle.stretches.specs.declared.Compared.{Compared}
-use Rattle.stretches.specs.Stretches.{leadOf, twoStretches, stretchCheck, comparingCheck, comparedBy, comparedOf, workAfterComparing}
+use Rattle.stretches.specs.Stretches.{lead_of, two_stretches, stretch_check, comparing_check, compared_by, compared_of, work_after_comparing}
 use Rattle.stretches.specs.Handed.{HandedBack}
-use Rattle.stretches.proofs.AllEvents.{stretch-promise}
+use Rattle.stretches.proofs.AllEvents.{stretch_promise}
 
 -- an answer is given where every check passed
-all-passed : (E : Recording) (r s : Stretch) (b : ℕ) (x : Lead) (k : Check) → Compared.Leads x ≡ comparedBy E r s b k → k ≡ Check.Passed
-all-passed E r s b x Check.Passed e = refl
-all-passed E r s b x (Check.Failed y) e = let z : ◌≡◌ {A = ℕ} 0 1 = cc in absurd (omega arith)
+all_passed : (E : Recording) (r s : Stretch) (b : ℕ) (x : Lead) (k : Check) → Compared.Leads x ≡ compared_by E r s b k → k ≡ Check.Passed
+all_passed E r s b x Check.Passed e = refl
+all_passed E r s b x (Check.Failed y) e = let z : ◌≡◌ {A = ℕ} 0 1 = cc in absurd (omega arith)
 
 -- each of them
-each-passed : (f : List ℕ) (r s : Stretch) (w : List ℕ) → comparingCheck f r s w ≡ Check.Passed
-    → (fileCheck f ≡ Check.Passed) × (twoStretches (recordingOf f) r s ≡ true) × (workFits (recordingOf f) w ≡ true)
-unfolding comparingCheck stretchCheck
-each-passed f r s w h =
-    let (p, q) = then-passed (fileCheck f) _ h in
-    let (t, u) = unless-passed (twoStretches (recordingOf f) r s) Refusal.Stretch _ q in
-    (p, t, (unless-passed (workFits (recordingOf f) w) Refusal.Work _ u).0)
+each_passed : (f : List ℕ) (r s : Stretch) (w : List ℕ) → comparing_check f r s w ≡ Check.Passed
+    → (file_check f ≡ Check.Passed) × (two_stretches (recording_of f) r s ≡ true) × (work_fits (recording_of f) w ≡ true)
+unfolding comparing_check stretch_check
+each_passed f r s w h =
+    let (p, q) = then_passed (file_check f) _ h in
+    let (t, u) = unless_passed (two_stretches (recording_of f) r s) Refusal.Stretch _ q in
+    (p, t, (unless_passed (work_fits (recording_of f) w) Refusal.Work _ u).0)
 
 pub handed : HandedBack
-unfolding comparedOf workAfterComparing workAfterAnalysing workCheck reading_of
+unfolding compared_of work_after_comparing work_after_analysing work_check reading_of
 handed f r s b x w w' a =
-    let k : comparingCheck f r s w ≡ Check.Passed = all-passed (recordingOf f) r s b x (comparingCheck f r s w) a.answer in
-    let (p, two, fits) = each-passed f r s w k in
-    let d : Compared.Leads x ≡ Compared.Leads (leadOf (recordingOf f) r s b) = a.answer ∙ ap (comparedBy (recordingOf f) r s b) k in
+    let k : comparing_check f r s w ≡ Check.Passed = all_passed (recording_of f) r s b x (comparing_check f r s w) a.answer in
+    let (p, two, fits) = each_passed f r s w k in
+    let d : Compared.Leads x ≡ Compared.Leads (lead_of (recording_of f) r s b) = a.answer ∙ ap (compared_by (recording_of f) r s b) k in
     record {
       answer = cc;
-      promise = stretch-promise f (trailerOf f) (rw p) r s two b;
+      promise = stretch_promise f (trailer_of f) (rw p) r s two b;
       work = a.work ∙ rw (k, p, fits);
     }

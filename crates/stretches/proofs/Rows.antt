@@ -6,58 +6,58 @@ use Rattle.model.specs.Rows.Starred.{RefusedAlone}
 use Rattle.model.proofs.Computing.{rows, refusal}
 use Rattle.stretches.specs.declared.Lead.{Lead}
 use Rattle.stretches.specs.declared.Compared.{Compared}
-use Rattle.stretches.specs.Stretches.{leadNumber, all, within, before, leadOf, isStretch, overlap, twoStretches, stretchCheck, comparingCheck, comparedOf, workAfterComparing}
+use Rattle.stretches.specs.Stretches.{lead_number, all, within, before, lead_of, is_stretch, overlap, two_stretches, stretch_check, comparing_check, compared_of, work_after_comparing}
 use Rattle.stretches.specs.Rows.{Stretched}
 
 pub stretched : Stretched
-unfolding rows all within before leadOf isStretch overlap twoStretches stretchCheck comparingCheck comparedOf workAfterComparing
+unfolding rows all within before lead_of is_stretch overlap two_stretches stretch_check comparing_check compared_of work_after_comparing
 stretched = record {
   first = leads Lead.First;
   second = leads Lead.Second;
   joined = leads Lead.First;
-  joined-turned = leads Lead.Second;
-  last-free = leads Lead.Neither;
-  first-free = leads Lead.Neither;
+  joined_turned = leads Lead.Second;
+  last_free = leads Lead.Neither;
+  first_free = leads Lead.Neither;
   around = leads Lead.Neither;
-  before-inner = leads Lead.First;
-  behind-inner = leads Lead.Second;
-  around-inner = leads Lead.Neither;
+  before_inner = leads Lead.First;
+  behind_inner = leads Lead.Second;
+  around_inner = leads Lead.Neither;
   waited = leads Lead.First;
-  waited-twice = leads Lead.First;
-  waited-once = leads Lead.Neither;
-  no-pass = leads Lead.Neither;
-  one-pass = leads Lead.First;
-  own-task = leads Lead.First;
-  own-task-turned = leads Lead.Second;
-  own-task-apart = leads Lead.First;
-  task = no-stretches;
-  task-other = no-stretches;
-  no-event = no-stretches;
-  first-0 = no-stretches;
-  first-0-other = no-stretches;
-  position-0 = no-stretches;
-  first_above = no-stretches;
-  first-above-other = no-stretches;
-  last-above = no-stretches;
-  last-above-other = no-stretches;
-  overlap = no-stretches;
-  overlap-turned = no-stretches;
-  overlap-same = no-stretches;
-  overlap-in = no-stretches;
-  overlap-around = no-stretches;
-  work-short = refusal Compared.Refused Refusal.Work;
-  file-before-stretch = refusal Compared.Refused (Refusal.Life 0);
-  stretch-before-work = refusal Compared.Refused Refusal.Stretch;
-  work-left = refl;
-  work-neither = refl;
-  work-analysed = refl;
-  work-file = refl;
-  work-stretch = refl;
-  work-kept = refl;
+  waited_twice = leads Lead.First;
+  waited_once = leads Lead.Neither;
+  no_pass = leads Lead.Neither;
+  one_pass = leads Lead.First;
+  own_task = leads Lead.First;
+  own_task_turned = leads Lead.Second;
+  own_task_apart = leads Lead.First;
+  task = no_stretches;
+  task_other = no_stretches;
+  no_event_lem = no_stretches;
+  first_0 = no_stretches;
+  first_0_other = no_stretches;
+  position_0 = no_stretches;
+  first_above = no_stretches;
+  first_above_other = no_stretches;
+  last_above = no_stretches;
+  last_above_other = no_stretches;
+  overlap = no_stretches;
+  overlap_turned = no_stretches;
+  overlap_same = no_stretches;
+  overlap_in = no_stretches;
+  overlap_around = no_stretches;
+  work_short = refusal Compared.Refused Refusal.Work;
+  file_before_stretch = refusal Compared.Refused (Refusal.Life 0);
+  stretch_before_work = refusal Compared.Refused Refusal.Stretch;
+  work_left = refl;
+  work_neither = refl;
+  work_analysed = refl;
+  work_file = refl;
+  work_stretch = refl;
+  work_kept = refl;
 }
   where
-    leads : (x : Lead) → (y : Lead) × (Compared.Leads x ≡ Compared.Leads y) × (leadNumber y ≡ leadNumber x)
+    leads : (x : Lead) → (y : Lead) × (Compared.Leads x ≡ Compared.Leads y) × (lead_number y ≡ lead_number x)
     leads x = (x, refl, refl)
 
-    no-stretches : RefusedAlone Compared.Refused (Compared.Refused Refusal.Stretch) 17
-    no-stretches = (Refusal.Stretch, refl, refl, refl, refl, refl, refl)
+    no_stretches : RefusedAlone Compared.Refused (Compared.Refused Refusal.Stretch) 17
+    no_stretches = (Refusal.Stretch, refl, refl, refl, refl, refl, refl)

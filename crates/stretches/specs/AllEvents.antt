@@ -7,18 +7,18 @@ use Rattle.model.specs.declared.Trailer.{Trailer}
 use Rattle.model.specs.declared.Reading.{Reading}
 use Rattle.model.specs.declared.Found.{Found}
 use Rattle.model.specs.Recording.{Recording}
-use Rattle.model.specs.File.{recordingOf}
+use Rattle.model.specs.File.{recording_of}
 use Rattle.model.specs.Reading.{reading_of}
 use Rattle.model.specs.Orders.{Always}
 use Rattle.model.specs.Vectors.{Vectors, ordered}
-use Rattle.model.specs.Passes.{isSettled, safeVectors}
-use Rattle.model.specs.Together.{atPosition}
+use Rattle.model.specs.Passes.{is_settled, safe_vectors}
+use Rattle.model.specs.Together.{at_position}
 use Rattle.stretches.specs.declared.Stretch.{Stretch}
-use Rattle.stretches.specs.Stretches.{leadNumber, within, before, leadOf, twoStretches}
+use Rattle.stretches.specs.Stretches.{lead_number, within, before, lead_of, two_stretches}
 
 -- the answer for r and s with this budget has the number n
 abbrev pub Answers : Recording → Stretch → Stretch → ℕ → ℕ → Type 0
-Answers E r s budget n = leadNumber (leadOf E r s budget) ≡ n
+Answers E r s budget n = lead_number (lead_of E r s budget) ≡ n
 
 -- this holds of every event of r with every event of s
 abbrev pub OfAll : List Event → Stretch → Stretch → (ℕ → ℕ → Type 0) → Type 0
@@ -31,32 +31,32 @@ AllOrdered l X r s = OfAll l r s (λ a b. ordered l X a b ≡ true)
 -- the last event of r and the first of s decide whether r is before s
 abbrev pub ByEnds : List Event → Vectors → Stretch → Stretch → Type 0
 ByEnds l X r s =
-    (a : ℕ) × (b : ℕ) × (atPosition l r.task r.last ≡ Found.At a) × (atPosition l s.task s.first ≡ Found.At b)
+    (a : ℕ) × (b : ℕ) × (at_position l r.task r.last ≡ Found.At a) × (at_position l s.task s.first ≡ Found.At b)
     × (before l X r s ≡ ordered l X a b)
 
 pub record StretchPromise (E : Recording) (r s : Stretch) (budget : ℕ) : Type 0 where
   -- 1 first: exactly where every event of r is ordered before every event of s
-  pub first : Answers E r s budget 1 ↔ AllOrdered E.events (safeVectors E budget) r s
+  pub first : Answers E r s budget 1 ↔ AllOrdered E.events (safe_vectors E budget) r s
   -- 2 second: exactly where it is so the other way round
-  pub second : Answers E r s budget 2 ↔ AllOrdered E.events (safeVectors E budget) s r
+  pub second : Answers E r s budget 2 ↔ AllOrdered E.events (safe_vectors E budget) s r
   -- 3 neither: exactly where it is so neither way
   pub neither : Answers E r s budget 3
-      ↔ (¬ (AllOrdered E.events (safeVectors E budget) r s) × ¬ (AllOrdered E.events (safeVectors E budget) s r))
+      ↔ (¬ (AllOrdered E.events (safe_vectors E budget) r s) × ¬ (AllOrdered E.events (safe_vectors E budget) s r))
   -- first: every event of r comes before every event of s in every admissible order
-  pub first-always : Answers E r s budget 1 → OfAll E.events r s (Always E)
+  pub first_always : Answers E r s budget 1 → OfAll E.events r s (Always E)
   -- second: the other way round
-  pub second-always : Answers E r s budget 2 → OfAll E.events s r (Always E)
+  pub second_always : Answers E r s budget 2 → OfAll E.events s r (Always E)
   -- a larger budget changes no first and no second
-  pub keeps-first : (larger : ℕ) → budget ≤ larger → Answers E r s budget 1 → Answers E r s larger 1
-  pub keeps-second : (larger : ℕ) → budget ≤ larger → Answers E r s budget 2 → Answers E r s larger 2
+  pub keeps_first : (larger : ℕ) → budget ≤ larger → Answers E r s budget 1 → Answers E r s larger 1
+  pub keeps_second : (larger : ℕ) → budget ≤ larger → Answers E r s budget 2 → Answers E r s larger 2
   -- where one budget is settled, every larger one gives the same answer
-  pub keeps-answer : isSettled E budget ≡ true → (larger : ℕ) → budget ≤ larger → leadOf E r s larger ≡ leadOf E r s budget
+  pub keeps_answer : is_settled E budget ≡ true → (larger : ℕ) → budget ≤ larger → lead_of E r s larger ≡ lead_of E r s budget
   -- either way two events decide
-  pub first_ends : ByEnds E.events (safeVectors E budget) r s
-  pub second-ends : ByEnds E.events (safeVectors E budget) s r
+  pub first_ends : ByEnds E.events (safe_vectors E budget) r s
+  pub second_ends : ByEnds E.events (safe_vectors E budget) s r
 
--- the statement, proved as `stretch-promise` in proofs/AllEvents.antt
+-- the statement, proved as `stretch_promise` in proofs/AllEvents.antt
 abbrev pub StretchPromised : Type 0
 StretchPromised =
     (f : List ℕ) (h : Trailer) → reading_of f ≡ Reading.Accepted h
-    → (r s : Stretch) → twoStretches (recordingOf f) r s ≡ true → (budget : ℕ) → StretchPromise (recordingOf f) r s budget
+    → (r s : Stretch) → two_stretches (recording_of f) r s ≡ true → (budget : ℕ) → StretchPromise (recording_of f) r s budget

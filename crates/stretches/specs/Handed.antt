@@ -2,20 +2,20 @@
 -- numbers are left as after analysing.
 -- Assumes nothing.
 use Rattle.std.specs.Prelude.{ℕ, ◌≡◌, List}
-use Rattle.model.specs.File.{recordingOf}
-use Rattle.model.specs.Analysing.{workAfterAnalysing}
+use Rattle.model.specs.File.{recording_of}
+use Rattle.model.specs.Analysing.{work_after_analysing}
 use Rattle.stretches.specs.declared.Stretch.{Stretch}
 use Rattle.stretches.specs.declared.Lead.{Lead}
 use Rattle.stretches.specs.declared.Compared.{Compared}
-use Rattle.stretches.specs.Stretches.{leadOf}
+use Rattle.stretches.specs.Stretches.{lead_of}
 use Rattle.stretches.specs.AllEvents.{StretchPromise}
 use Rattle.stretches.specs.Lent.{ComparedAs}
 
 -- of the stretches r and s of the file f with the budget b: the answer, and the work numbers as they were and as they are left
 pub record Handed (f : List ℕ) (r s : Stretch) (b : ℕ) (x : Lead) (w w' : List ℕ) : Type 0 where
-  pub answer : x ≡ leadOf (recordingOf f) r s b
-  pub promise : StretchPromise (recordingOf f) r s b
-  pub work : w' ≡ workAfterAnalysing f b w
+  pub answer : x ≡ lead_of (recording_of f) r s b
+  pub promise : StretchPromise (recording_of f) r s b
+  pub work : w' ≡ work_after_analysing f b w
 
 -- the statement, proved as `handed` in proofs/Handed.antt
 abbrev pub HandedBack : Type 0

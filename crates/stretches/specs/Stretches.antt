@@ -5,22 +5,22 @@ use Rattle.model.specs.declared.Event.{Event}
 use Rattle.model.specs.declared.Refusal.{Refusal}
 use Rattle.model.specs.declared.Check.{Check}
 use Rattle.model.specs.Refusals.{unless, and_then, after}
-use Rattle.model.specs.Recording.{Recording, tasks, eventIn, ofTask, implies}
-use Rattle.model.specs.File.{recordingOf}
-use Rattle.model.specs.Reading.{fileCheck}
+use Rattle.model.specs.Recording.{Recording, tasks, event_in, of_task, implies}
+use Rattle.model.specs.File.{recording_of}
+use Rattle.model.specs.Reading.{file_check}
 use Rattle.model.specs.Vectors.{Vectors, position, ordered}
-use Rattle.model.specs.Passes.{safeVectors}
-use Rattle.model.specs.Pairs.{ownEvents}
-use Rattle.model.specs.Analysing.{workFits, filled}
+use Rattle.model.specs.Passes.{safe_vectors}
+use Rattle.model.specs.Pairs.{own_events}
+use Rattle.model.specs.Analysing.{work_fits, filled}
 use Rattle.stretches.specs.declared.Stretch.{Stretch}
 use Rattle.stretches.specs.declared.Lead.{Lead}
 use Rattle.stretches.specs.declared.Compared.{Compared}
 
 -- 1 first, 2 second, 3 neither
-abbrev pub leadNumber : Lead → ℕ
-leadNumber Lead.First = 1
-leadNumber Lead.Second = 2
-leadNumber Lead.Neither = 3
+abbrev pub lead_number : Lead → ℕ
+lead_number Lead.First = 1
+lead_number Lead.Second = 2
+lead_number Lead.Neither = 3
 
 -- every number below n passes the test
 unfoldable pub all : (ℕ → Bool) → ℕ → Bool
@@ -29,57 +29,57 @@ all p (suc n) = all p n && p n
 
 -- event a is of the stretch s: one of its task, at a position from its first to its last
 unfoldable pub within : List Event → Stretch → ℕ → Bool
-within l s a = ofTask s.task (eventIn l a) && leb s.first (position l a) && leb (position l a) s.last
+within l s a = of_task s.task (event_in l a) && leb s.first (position l a) && leb (position l a) s.last
 
 -- the stretch r is before the stretch s: every event of r is ordered before every event of s
 unfoldable pub before : List Event → Vectors → Stretch → Stretch → Bool
 before l X r s = all (λ a. all (λ b. implies (within l r a && within l s b) (ordered l X a b)) (length l)) (length l)
 
 -- first where the first is before the second, second where the second is before the first, else neither
-abbrev pub leadWhere : Bool → Bool → Lead
-leadWhere there back = cond there Lead.First (cond back Lead.Second Lead.Neither)
+abbrev pub lead_where : Bool → Bool → Lead
+lead_where there back = cond there Lead.First (cond back Lead.Second Lead.Neither)
 
 -- which of r and s is before the other by the safe vectors, with a budget
-unfoldable pub leadOf : Recording → Stretch → Stretch → ℕ → Lead
-leadOf E r s budget = let X = safeVectors E budget in leadWhere (before E.events X r s) (before E.events X s r)
+unfoldable pub lead_of : Recording → Stretch → Stretch → ℕ → Lead
+lead_of E r s budget = let X = safe_vectors E budget in lead_where (before E.events X r s) (before E.events X s r)
 
 -- ---- 17: what is no stretch, and two that overlap
 
 -- the task is known, first is not 0 and does not exceed last, and last does not exceed the task's events
-unfoldable pub isStretch : Recording → Stretch → Bool
-isStretch E s =
-    ltb s.task (tasks E) && leb 1 s.first && leb s.first s.last && leb s.last (length (ownEvents E.events s.task))
+unfoldable pub is_stretch : Recording → Stretch → Bool
+is_stretch E s =
+    ltb s.task (tasks E) && leb 1 s.first && leb s.first s.last && leb s.last (length (own_events E.events s.task))
 
 -- the two are of one task and have a position in common
 unfoldable pub overlap : Stretch → Stretch → Bool
 overlap r s = eqb r.task s.task && leb r.first s.last && leb s.first r.last
 
 -- two stretches that do not overlap
-unfoldable pub twoStretches : Recording → Stretch → Stretch → Bool
-twoStretches E r s = isStretch E r && isStretch E s && not (overlap r s)
+unfoldable pub two_stretches : Recording → Stretch → Stretch → Bool
+two_stretches E r s = is_stretch E r && is_stretch E s && not (overlap r s)
 
 -- ---- the call
 
 -- 17, then 9
-unfoldable pub stretchCheck : Recording → Stretch → Stretch → List ℕ → Check
-stretchCheck E r s work =
-    unless (twoStretches E r s) Refusal.Stretch λ _.
-    unless (workFits E work) Refusal.Work λ _.
+unfoldable pub stretch_check : Recording → Stretch → Stretch → List ℕ → Check
+stretch_check E r s work =
+    unless (two_stretches E r s) Refusal.Stretch λ _.
+    unless (work_fits E work) Refusal.Work λ _.
     Check.Passed
 
 -- the file's refusal, then these
-unfoldable pub comparingCheck : List ℕ → Stretch → Stretch → List ℕ → Check
-comparingCheck f r s work = and_then (fileCheck f) λ _. stretchCheck (recordingOf f) r s work
+unfoldable pub comparing_check : List ℕ → Stretch → Stretch → List ℕ → Check
+comparing_check f r s work = and_then (file_check f) λ _. stretch_check (recording_of f) r s work
 
 -- the answer, or the refusal
-abbrev pub comparedBy : Recording → Stretch → Stretch → ℕ → Check → Compared
-comparedBy E r s budget Check.Passed = Compared.Leads (leadOf E r s budget)
-comparedBy E r s budget (Check.Failed x) = Compared.Refused x
+abbrev pub compared_by : Recording → Stretch → Stretch → ℕ → Check → Compared
+compared_by E r s budget Check.Passed = Compared.Leads (lead_of E r s budget)
+compared_by E r s budget (Check.Failed x) = Compared.Refused x
 
 -- what comparing two stretches answers
-unfoldable pub comparedOf : List ℕ → Stretch → Stretch → ℕ → List ℕ → Compared
-comparedOf f r s budget work = comparedBy (recordingOf f) r s budget (comparingCheck f r s work)
+unfoldable pub compared_of : List ℕ → Stretch → Stretch → ℕ → List ℕ → Compared
+compared_of f r s budget work = compared_by (recording_of f) r s budget (comparing_check f r s work)
 
 -- the work memory after comparing: filled as after analysing
-unfoldable pub workAfterComparing : List ℕ → Stretch → Stretch → ℕ → List ℕ → List ℕ
-workAfterComparing f r s budget work = after (comparingCheck f r s work) (λ _. filled (recordingOf f) budget work) work
+unfoldable pub work_after_comparing : List ℕ → Stretch → Stretch → ℕ → List ℕ → List ℕ
+work_after_comparing f r s budget work = after (comparing_check f r s work) (λ _. filled (recording_of f) budget work) work

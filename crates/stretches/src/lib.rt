@@ -1,14 +1,14 @@
 // A stretch of work before another: which of two stretches of a recording file is before the other.
 ghost use Rattle.std.specs.Prelude.{◌≡◌, ◌&&◌, [], ◌+◌, ◌*◌, ◌/◌, ◌<◌, eqb, length};
-ghost use Rattle.model.specs.Recording.{eventIn, ofTask};
-ghost use Rattle.model.specs.File.{eventsOf, recordingBy};
+ghost use Rattle.model.specs.Recording.{event_in, of_task};
+ghost use Rattle.model.specs.File.{events_of, recording_by};
 ghost use Rattle.model.specs.Reading.{reading_of};
 ghost use Rattle.model.specs.Vectors.{position};
-ghost use Rattle.model.specs.Together.{atPosition};
+ghost use Rattle.model.specs.Together.{at_position};
 ghost use Rattle.events.specs.Kept.{Positions, Below};
-ghost use Rattle.passes.specs.Lent.{vectorsIn, Placed, Fitting};
-ghost use Rattle.stretches.specs.Stretches.{leadNumber, isStretch, overlap, twoStretches, comparedOf, workAfterComparing};
-ghost use Rattle.stretches.specs.Lent.{isFound, endsOrdered, leadByEnds, ComparedAs};
+ghost use Rattle.passes.specs.Lent.{vectors_in, Placed, Fitting};
+ghost use Rattle.stretches.specs.Stretches.{lead_number, is_stretch, overlap, two_stretches, compared_of, work_after_comparing};
+ghost use Rattle.stretches.specs.Lent.{is_found, ends_ordered, lead_by_ends, ComparedAs};
 
 use model::{Counts, Found, Reading, Refusal, Trailer};
 
@@ -38,7 +38,7 @@ pub enum Compared {
 impl Lead {
     // The number of the answer: 1 first, 2 second, 3 neither.
     pub fn number(self) -> u8
-        ensures { result ≡ leadNumber self }
+        ensures { result ≡ lead_number self }
     {
         match self {
             Lead::First => 1,
@@ -50,8 +50,8 @@ impl Lead {
 
 // Whether event e is this task's, at this position.
 fn is_at(records: &[u8], positions: &[u16], e: usize, task: u16, at: u16) -> bool
-    requires { Positions (eventsOf records.now) positions.now × (4 * e + 3 < length records.now) }
-    ensures { result ≡ (ofTask task (eventIn (eventsOf records.now) e) && eqb (position (eventsOf records.now) e) at) }
+    requires { Positions (events_of records.now) positions.now × (4 * e + 3 < length records.now) }
+    ensures { result ≡ (of_task task (event_in (events_of records.now) e) && eqb (position (events_of records.now) e) at) }
 {
     let v = events::event_at(records, e);
     (v.task as u16 == task) & (positions[e] == at)
@@ -59,8 +59,8 @@ fn is_at(records: &[u8], positions: &[u16], e: usize, task: u16, at: u16) -> boo
 
 // The event of this task at this position.
 fn at_position(records: &[u8], positions: &[u16], task: u16, at: u16) -> Found
-    requires { Positions (eventsOf records.now) positions.now }
-    ensures { (result ≡ atPosition (eventsOf records.now) task at) × Below (length records.now / 4) result }
+    requires { Positions (events_of records.now) positions.now }
+    ensures { (result ≡ at_position (events_of records.now) task at) × Below (length records.now / 4) result }
 {
     let mut i = records.len() / 4;
     while 0 < i {
@@ -74,7 +74,7 @@ fn at_position(records: &[u8], positions: &[u16], task: u16, at: u16) -> Found
 
 // Whether something was found.
 fn is_found(found: Found) -> bool
-    ensures { result ≡ isFound found }
+    ensures { result ≡ is_found found }
 {
     match found {
         Found::At(_) => true,
@@ -84,8 +84,8 @@ fn is_found(found: Found) -> bool
 
 // Whether s is a stretch of these records. Its task has the last position exactly where an event is found there.
 fn is_stretch(records: &[u8], counts: Counts, positions: &[u16], s: Stretch) -> bool
-    requires { Positions (eventsOf records.now) positions.now }
-    ensures { result ≡ isStretch (recordingBy records.now counts []) s }
+    requires { Positions (events_of records.now) positions.now }
+    ensures { result ≡ is_stretch (recording_by records.now counts []) s }
 {
     let last = at_position(records, positions, s.task, s.last);
     let found = is_found(last);
@@ -107,8 +107,8 @@ fn two_stretches(
     one: Stretch,
     other: Stretch,
 ) -> bool
-    requires { Positions (eventsOf records.now) positions.now }
-    ensures { result ≡ twoStretches (recordingBy records.now counts []) one other }
+    requires { Positions (events_of records.now) positions.now }
+    ensures { result ≡ two_stretches (recording_by records.now counts []) one other }
 {
     let a = is_stretch(records, counts, positions, one);
     let b = is_stretch(records, counts, positions, other);
@@ -126,7 +126,7 @@ fn ends_ordered(
     other: Stretch,
 ) -> bool
     requires { Placed records.now counts positions.now × Fitting records.now counts v.now }
-    ensures { result ≡ endsOrdered (eventsOf records.now) (vectorsIn records.now counts v.now) one other }
+    ensures { result ≡ ends_ordered (events_of records.now) (vectors_in records.now counts v.now) one other }
 {
     let last = at_position(records, positions, one.task, one.last);
     let first = at_position(records, positions, other.task, other.first);
@@ -149,7 +149,7 @@ fn lead_by_ends(
     other: Stretch,
 ) -> Lead
     requires { Placed records.now counts positions.now × Fitting records.now counts v.now }
-    ensures { result ≡ leadByEnds (eventsOf records.now) (vectorsIn records.now counts v.now) one other }
+    ensures { result ≡ lead_by_ends (events_of records.now) (vectors_in records.now counts v.now) one other }
 {
     if ends_ordered(records, counts, positions, v, one, other) {
         return Lead::First;
@@ -190,8 +190,8 @@ fn compare_read(
 // Tells which of two stretches of a recording file is before the other, with a budget of passes. The work numbers are left as after
 // analysing; a refusal leaves them as they were.
 pub fn compare(file: &[u8], one: Stretch, other: Stretch, budget: u32, work: &mut [u16]) -> Compared
-    ensures value { result ≡ comparedOf file.now one other budget work.old }
-    ensures work_after { work.new ≡ workAfterComparing file.now one other budget work.old }
+    ensures value { result ≡ compared_of file.now one other budget work.old }
+    ensures work_after { work.new ≡ work_after_comparing file.now one other budget work.old }
 {
     match recording::read(file) {
         Reading::Accepted(trailer) => compare_read(file, trailer, one, other, budget, work),

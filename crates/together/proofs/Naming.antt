@@ -9,25 +9,25 @@ use lib.ListN.{length, get_or, take, drop, length-append}
 use lib.Seq.{sets, sets-eq, length-sets, take-append-le, take-take, drop_at, length-take-le, get_or-take}
 use Rattle.model.specs.declared.Event.{Event}
 use Rattle.model.specs.Numbers.{flat_map, list_from}
-use Rattle.model.specs.Recording.{Recording, eventIn}
+use Rattle.model.specs.Recording.{Recording, event_in}
 use Rattle.model.specs.Vectors.{Vectors, position}
 use Rattle.model.specs.Pairs.{Entry, entry_at}
-use Rattle.together.specs.Naming.{entries_at, eitherMark, named}
+use Rattle.together.specs.Naming.{entries_at, either_mark, named}
 
 -- the numbers that are stored are those of the entry
-pub stored-named : (l : List Event) (F : Recording) (R : Vectors) (kept : List ℕ) (a b m : ℕ) (out : List ℕ) (at : ℕ) (v w : Event) (p q k : ℕ)
-    → v ≡ eventIn l a → w ≡ eventIn l b → p ≡ position l a → q ≡ position l b → k ≡ eitherMark F R kept a b m
+pub stored_named : (l : List Event) (F : Recording) (R : Vectors) (kept : List ℕ) (a b m : ℕ) (out : List ℕ) (at : ℕ) (v w : Event) (p q k : ℕ)
+    → v ≡ event_in l a → w ≡ event_in l b → p ≡ position l a → q ≡ position l b → k ≡ either_mark F R kept a b m
     → sets out at (v.task ∷ p ∷ w.task ∷ q ∷ k ∷ []) ≡ sets out at (named l F R kept (record { first = a; second = b; mark = m }))
 unfolding named
-stored-named l F R kept a b m out at v w p q k e f g h j = rw (e, f, g, h, j)
+stored_named l F R kept a b m out at v w p q k e f g h j = rw (e, f, g, h, j)
 
-flat-first : (f : Entry → List ℕ) (g : ℕ → Entry) (i n : ℕ) → flat_map f (list_from g i (suc n)) ≡ f (g i) ++ flat_map f (list_from g (i + 1) n)
+flat_first : (f : Entry → List ℕ) (g : ℕ → Entry) (i n : ℕ) → flat_map f (list_from g i (suc n)) ≡ f (g i) ++ flat_map f (list_from g (i + 1) n)
 unfolding flat_map list_from
-flat-first f g i n = rw (add-one i)
+flat_first f g i n = rw (add-one i)
 
-pub five-numbers : (l : List Event) (F : Recording) (R : Vectors) (kept : List ℕ) (p : Entry) → length (named l F R kept p) ≡ 5
+pub five_numbers : (l : List Event) (F : Recording) (R : Vectors) (kept : List ℕ) (p : Entry) → length (named l F R kept p) ≡ 5
 unfolding named
-five-numbers l F R kept p = refl
+five_numbers l F R kept p = refl
 
 -- ---- entries of three numbers, the last one first, turned into n entries of five by f
 
@@ -38,13 +38,13 @@ pub record Turned (f : Entry → List ℕ) (n : ℕ) (old : List ℕ) (i : ℕ) 
   pub behind : drop (5 * i) list ≡ flat_map f (list_from (entry_at old) i (n - i)) ++ drop (5 * n) old
 
 module _ (f : Entry → List ℕ) (n : ℕ) (old : List ℕ) where
-  pub none-turned : Turned f n old n old
+  pub none_turned : Turned f n old n old
   unfolding flat_map list_from
-  none-turned = let z : n - n ≡ 0 = omega arith in record { as_long = refl; before = refl; behind = rw z }
+  none_turned = let z : n - n ≡ 0 = omega arith in record { as_long = refl; before = refl; behind = rw z }
 
   -- an entry that is not turned yet is as it was
-  pub same-entry : (i j : ℕ) (list : List ℕ) → Turned f n old i list → j < i → entry_at list j ≡ entry_at old j
-  same-entry i j list t h = rw (at (3 * j) (omega arith), at (3 * j + 1) (omega arith), at (3 * j + 2) (omega arith))
+  pub same_entry : (i j : ℕ) (list : List ℕ) → Turned f n old i list → j < i → entry_at list j ≡ entry_at old j
+  same_entry i j list t h = rw (at (3 * j) (omega arith), at (3 * j + 1) (omega arith), at (3 * j + 2) (omega arith))
     where
       at : (k : ℕ) → k < 3 * i → get_or list k 0 ≡ get_or old k 0
       at k l = sym (get_or-take (3 * i) list k 0 l) ∙ ap (λ (x : List ℕ). get_or x k 0) t.before ∙ get_or-take (3 * i) old k 0 l
@@ -62,8 +62,8 @@ module _ (f : Entry → List ℕ) (n : ℕ) (old : List ℕ) where
     front : length (take (5 * i) list) ≡ 5 * i
     front = length-take-le (5 * i) list (omega (arith, t.as_long))
 
-    turned-next : Turned f n old i out
-    turned-next =
+    turned_next : Turned f n old i out
+    turned_next =
         record {
           as_long = length-sets list (5 * i) (f (entry_at old i)) ∙ t.as_long;
           before =
@@ -81,7 +81,7 @@ module _ (f : Entry → List ℕ) (n : ℕ) (old : List ℕ) where
       where
         -- the first of the entries from i on
         first_of : f (entry_at old i) ++ flat_map f (list_from (entry_at old) (i + 1) (n - (i + 1))) ≡ flat_map f (list_from (entry_at old) i (n - i))
-        first_of = let k : n - i ≡ suc (n - (i + 1)) = omega arith in rw k (sym (flat-first f (entry_at old) i (n - (i + 1))))
+        first_of = let k : n - i ≡ suc (n - (i + 1)) = omega arith in rw k (sym (flat_first f (entry_at old) i (n - (i + 1))))
 
         below : take (3 * i) list ≡ take (3 * i) old
         below =
@@ -92,8 +92,8 @@ module _ (f : Entry → List ℕ) (n : ℕ) (old : List ℕ) where
       → out ≡ sets list (5 * i) (f (entry_at list i)) → Turned f n old i out
   turn k i list out e h five room t q =
       let u = rw e at t in
-      let s = q ∙ ap (λ (p : Entry). sets list (5 * i) (f p)) (same-entry (i + 1) i list u (omega arith)) in
-      rw s (turned-next i list u (omega arith) (five (entry_at old i)) room)
+      let s = q ∙ ap (λ (p : Entry). sets list (5 * i) (f p)) (same_entry (i + 1) i list u (omega arith)) in
+      rw s (turned_next i list u (omega arith) (five (entry_at old i)) room)
 
-  pub all-turned : (list : List ℕ) → Turned f n old 0 list → list ≡ flat_map f (entries_at old n) ++ drop (5 * n) old
-  all-turned list t = let z : n - 0 ≡ n = omega arith in rw z at t.behind
+  pub all_turned : (list : List ℕ) → Turned f n old 0 list → list ≡ flat_map f (entries_at old n) ++ drop (5 * n) old
+  all_turned list t = let z : n - 0 ≡ n = omega arith in rw z at t.behind

@@ -3,15 +3,15 @@
 ghost use Rattle.std.specs.Prelude.{◌≡◌, [], ◌∷◌, ◌++◌, ◌+◌, ◌*◌, ◌≤◌, ◌<◌, ℕ, max, length, drop};
 ghost use Rattle.std.proofs.lemmas.List.Edits.{sets};
 ghost use Rattle.model.specs.Numbers.{flat_map};
-ghost use Rattle.together.specs.Naming.{entries_at, eitherMark, Second, InSecond, Naming, named_by, OfFirst, JobLent, NamedAll};
-ghost use Rattle.model.specs.File.{recordingBy, eventsOf};
+ghost use Rattle.together.specs.Naming.{entries_at, either_mark, Second, InSecond, Naming, named_by, OfFirst, JobLent, NamedAll};
+ghost use Rattle.model.specs.File.{recording_by, events_of};
 ghost use Rattle.model.specs.Pairs.{entry_at};
 ghost use Rattle.model.specs.Reading.{reading_of};
-ghost use Rattle.model.specs.Together.{settledIn, jointOf, firstWorkAfter, secondWorkAfter, jointListAfter};
+ghost use Rattle.model.specs.Together.{settled_in, joint_of, first_work_after, second_work_after, joint_list_after};
 ghost use Rattle.events.specs.Kept.{Positions};
 ghost use Rattle.work.specs.Lent.{Ready, Roomy};
 ghost use Rattle.together.specs.Lent.{SameJob, Settled, Held};
-ghost use Rattle.passes.specs.Lent.{vectorsIn};
+ghost use Rattle.passes.specs.Lent.{vectors_in};
 
 use model::{Check, Counts, Joint, MOST_EVENTS, Reading, Refusal, Trailer};
 
@@ -52,7 +52,7 @@ fn either_mark(
     m: u16,
 ) -> u16
     requires { Second second.now counts there.now recorded.now × InSecond second.now kept.now a × InSecond second.now kept.now b }
-    ensures { result ≡ eitherMark (recordingBy second.now counts []) (vectorsIn second.now counts recorded.now) kept.now a b m }
+    ensures { result ≡ either_mark (recording_by second.now counts []) (vectors_in second.now counts recorded.now) kept.now a b m }
 {
     let x = kept[a] as usize;
     let y = kept[b] as usize;
@@ -141,8 +141,8 @@ fn settle(
     positions: &[u16; MOST_EVENTS],
     work: &mut [u16],
 )
-    requires { Ready records.now counts × Roomy records.now counts work.old × Positions (eventsOf records.now) positions.now }
-    ensures { work.new ≡ settledIn (recordingBy records.now counts levels.now) work.old }
+    requires { Ready records.now counts × Roomy records.now counts work.old × Positions (events_of records.now) positions.now }
+    ensures { work.new ≡ settled_in (recording_by records.now counts levels.now) work.old }
 {
     let budget = work::budget_of(records);
     work::fill(records, counts, levels, positions, budget, work);
@@ -161,7 +161,7 @@ fn hold(
     list: &mut [u16],
 ) -> Joint
     requires { SameJob first.now first_counts first_levels.now second.now second_counts second_levels.now }
-    ensures { Settled (recordingBy first.now first_counts first_levels.now) (recordingBy second.now second_counts second_levels.now)
+    ensures { Settled (recording_by first.now first_counts first_levels.now) (recording_by second.now second_counts second_levels.now)
         first_work.old second_work.old list.old result first_work.new second_work.new list.new }
 {
     if !(work::work_fits(first, first_counts, first_work)
@@ -248,10 +248,10 @@ pub fn analyse_both(
     second_work: &mut [u16],
     list: &mut [u16],
 ) -> Joint
-    ensures value { result ≡ jointOf first.now second.now first_work.old second_work.old list.old }
-    ensures first_work_after { first_work.new ≡ firstWorkAfter first.now second.now first_work.old second_work.old }
-    ensures second_work_after { second_work.new ≡ secondWorkAfter first.now second.now first_work.old second_work.old }
-    ensures list_after { list.new ≡ jointListAfter first.now second.now first_work.old second_work.old list.old }
+    ensures value { result ≡ joint_of first.now second.now first_work.old second_work.old list.old }
+    ensures first_work_after { first_work.new ≡ first_work_after first.now second.now first_work.old second_work.old }
+    ensures second_work_after { second_work.new ≡ second_work_after first.now second.now first_work.old second_work.old }
+    ensures list_after { list.new ≡ joint_list_after first.now second.now first_work.old second_work.old list.old }
 {
     match recording::read(first) {
         Reading::Accepted(trailer) => {

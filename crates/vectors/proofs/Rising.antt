@@ -9,24 +9,24 @@ use native.Mathlib.Omega.{arith}
 use lib.Dec.{eqb}
 use lib.ListN.{length, get_or, set, length-set}
 use lib.Seq.{get_or-set_same}
-use Rattle.model.specs.Passes.{sameRow}
-use Rattle.model.proofs.Tests.{cases, and-fails, eqb-true, eqb-false, eq-eqb, ne_eqb}
+use Rattle.model.specs.Passes.{same_row}
+use Rattle.model.proofs.Tests.{cases, and_fails, eqb-true, eqb-false, eq-eqb, ne_eqb}
 use Rattle.vectors.specs.Rows.{Rose}
 
-pub sameRow-refl : (l : List ℕ) → sameRow l l ≡ true
-sameRow-refl [] = refl
-sameRow-refl (x ∷ l) = rw (eq-eqb x x refl) (sameRow-refl l)
+pub same_row-refl : (l : List ℕ) → same_row l l ≡ true
+same_row-refl [] = refl
+same_row-refl (x ∷ l) = rw (eq-eqb x x refl) (same_row-refl l)
 
 -- two lists that differ at a place are not the same
-sameRow-differ : (l k : List ℕ) (i : ℕ) → (get_or l i 0 ≡ get_or k i 0 → ⊥) → sameRow l k ≡ false
-sameRow-differ [] [] i h = absurd (h refl)
-sameRow-differ [] (y ∷ k) i h = refl
-sameRow-differ (x ∷ l) [] i h = refl
-sameRow-differ (x ∷ l) (y ∷ k) zero h = rw (ne_eqb x y h)
-sameRow-differ (x ∷ l) (y ∷ k) (suc i) h = and-fails (eqb x y) (sameRow-differ l k i h)
+same_row_differ : (l k : List ℕ) (i : ℕ) → (get_or l i 0 ≡ get_or k i 0 → ⊥) → same_row l k ≡ false
+same_row_differ [] [] i h = absurd (h refl)
+same_row_differ [] (y ∷ k) i h = refl
+same_row_differ (x ∷ l) [] i h = refl
+same_row_differ (x ∷ l) (y ∷ k) zero h = rw (ne_eqb x y h)
+same_row_differ (x ∷ l) (y ∷ k) (suc i) h = and_fails (eqb x y) (same_row_differ l k i h)
 
-eqb-and : (x y z : ℕ) → x ≤ y → y ≤ z → eqb x z ≡ (eqb x y && eqb y z)
-eqb-and x y z p q =
+eqb_and : (x y z : ℕ) → x ≤ y → y ≤ z → eqb x z ≡ (eqb x y && eqb y z)
+eqb_and x y z p q =
     cases (eqb x y) (λ t. let e = eqb-true x y t in rw (t, e))
     (λ t. let d = eqb-false x y t in rw (t, ne_eqb x z (λ e. d (omega arith))))
 
@@ -37,49 +37,49 @@ swap true false false d = refl
 swap false b c d = refl
 
 -- where numbers only rise, the first is the last exactly where no step changed anything
-same-and : (o c d : List ℕ) → length o ≡ length c → length c ≡ length d → ((i : ℕ) → get_or o i 0 ≤ get_or c i 0) → ((i : ℕ) → get_or c i 0 ≤ get_or d i 0)
-    → sameRow o d ≡ (sameRow o c && sameRow c d)
-same-and [] [] [] h k p q = refl
-same-and [] [] (z ∷ d) h k p q = refl
-same-and [] (y ∷ c) d h k p q = absurd (omega arith)
-same-and (x ∷ o) [] d h k p q = absurd (omega arith)
-same-and (x ∷ o) (y ∷ c) [] h k p q = absurd (omega arith)
-same-and (x ∷ o) (y ∷ c) (z ∷ d) h k p q =
-    ap₂ ◌&&◌ (eqb-and x y z (p 0) (q 0)) (same-and o c d (omega arith) (omega arith) (λ i. p (suc i)) (λ i. q (suc i)))
-    ∙ swap (eqb x y) (eqb y z) (sameRow o c) (sameRow c d)
+same_and : (o c d : List ℕ) → length o ≡ length c → length c ≡ length d → ((i : ℕ) → get_or o i 0 ≤ get_or c i 0) → ((i : ℕ) → get_or c i 0 ≤ get_or d i 0)
+    → same_row o d ≡ (same_row o c && same_row c d)
+same_and [] [] [] h k p q = refl
+same_and [] [] (z ∷ d) h k p q = refl
+same_and [] (y ∷ c) d h k p q = absurd (omega arith)
+same_and (x ∷ o) [] d h k p q = absurd (omega arith)
+same_and (x ∷ o) (y ∷ c) [] h k p q = absurd (omega arith)
+same_and (x ∷ o) (y ∷ c) (z ∷ d) h k p q =
+    ap₂ ◌&&◌ (eqb_and x y z (p 0) (q 0)) (same_and o c d (omega arith) (omega arith) (λ i. p (suc i)) (λ i. q (suc i)))
+    ∙ swap (eqb x y) (eqb y z) (same_row o c) (same_row c d)
 
 -- nothing changes
-pub rose-none : (l : List ℕ) → Rose l l false
-rose-none l = record { kept = refl; up = λ i. le_refl (get_or l i 0); flag = ap not (sym (sameRow-refl l)) }
+pub rose_none : (l : List ℕ) → Rose l l false
+rose_none l = record { kept = refl; up = λ i. le_refl (get_or l i 0); flag = ap not (sym (same_row-refl l)) }
 
-set-up : (l : List ℕ) (i x : ℕ) → get_or l i 0 ≤ x → (j : ℕ) → get_or l j 0 ≤ get_or (set l i x) j 0
-set-up [] i x h j = le_refl 0
-set-up (y ∷ l) zero x h zero = h
-set-up (y ∷ l) zero x h (suc j) = le_refl (get_or l j 0)
-set-up (y ∷ l) (suc i) x h zero = le_refl y
-set-up (y ∷ l) (suc i) x h (suc j) = set-up l i x h j
+set_up : (l : List ℕ) (i x : ℕ) → get_or l i 0 ≤ x → (j : ℕ) → get_or l j 0 ≤ get_or (set l i x) j 0
+set_up [] i x h j = le_refl 0
+set_up (y ∷ l) zero x h zero = h
+set_up (y ∷ l) zero x h (suc j) = le_refl (get_or l j 0)
+set_up (y ∷ l) (suc i) x h zero = le_refl y
+set_up (y ∷ l) (suc i) x h (suc j) = set_up l i x h j
 
 -- one number rises
-pub rose-one : (l : List ℕ) (i x : ℕ) → i < length l → get_or l i 0 < x → Rose l (set l i x) true
-rose-one l i x k h =
+pub rose_one : (l : List ℕ) (i x : ℕ) → i < length l → get_or l i 0 < x → Rose l (set l i x) true
+rose_one l i x k h =
     let g = get_or-set_same l i x 0 k in
     record {
       kept = sym (length-set l i x);
-      up = set-up l i x (omega arith);
-      flag = ap not (sym (sameRow-differ l (set l i x) i (λ e. omega arith)));
+      up = set_up l i x (omega arith);
+      flag = ap not (sym (same_row_differ l (set l i x) i (λ e. omega arith)));
     }
 
 -- one step, and then another
-pub rose-then : {o c d : List ℕ} {x y : Bool} → Rose o c x → Rose c d y → Rose o d (x || y)
-rose-then {o} {c} {d} {x} {y} p q =
+pub rose_then : {o c d : List ℕ} {x y : Bool} → Rose o c x → Rose c d y → Rose o d (x || y)
+rose_then {o} {c} {d} {x} {y} p q =
     record {
       kept = p.kept ∙ q.kept;
       up = λ i. le_trans (p.up i) (q.up i);
-      flag = ap₂ ◌||◌ p.flag q.flag ∙ or-not (sameRow o c) (sameRow c d) ∙ ap not (sym (same-and o c d p.kept q.kept p.up q.up));
+      flag = ap₂ ◌||◌ p.flag q.flag ∙ or_not (same_row o c) (same_row c d) ∙ ap not (sym (same_and o c d p.kept q.kept p.up q.up));
     }
   where
-    or-not : (a b : Bool) → not a || not b ≡ not (a && b)
-    or-not true true = refl
-    or-not true false = refl
-    or-not false true = refl
-    or-not false false = refl
+    or_not : (a b : Bool) → not a || not b ≡ not (a && b)
+    or_not true true = refl
+    or_not true false = refl
+    or_not false true = refl
+    or_not false false = refl

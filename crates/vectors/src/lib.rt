@@ -1,9 +1,9 @@
 // Vectors in one lent slice of work numbers, event by event, `tasks` numbers each. No event and no file is known here.
 ghost use Rattle.std.specs.Prelude.{ℕ, ◌+◌, ◌*◌, ◌≤◌, ◌<◌, max, ◌≡◌, ◌++◌, length, get_or, set, drop, leb};
 ghost use Rattle.std.proofs.lemmas.List.Edits.{sets};
-ghost use Rattle.model.specs.Numbers.{count, kthLeast};
-ghost use Rattle.model.specs.Reading.{mostEvents};
-ghost use Rattle.vectors.specs.Rows.{raisedAt, column, own_row, Rose};
+ghost use Rattle.model.specs.Numbers.{count, kth_least};
+ghost use Rattle.model.specs.Reading.{most_events};
+ghost use Rattle.vectors.specs.Rows.{raised_at, column, own_row, Rose};
 
 use model::MOST_EVENTS;
 
@@ -31,7 +31,7 @@ fn raise_number(v: &mut [u16], at: usize, y: u16) -> bool
 // Raises vector `to` to vector `from`, number by number. Answers whether any number rose.
 pub fn raise_row(v: &mut [u16], to: usize, from: usize, tasks: usize) -> bool
     requires { (to * tasks + tasks ≤ length v.old) × (from * tasks + tasks ≤ length v.old) }
-    ensures v_after { v.new ≡ raisedAt v.old (to * tasks) (λ t. get_or v.old (from * tasks + t) 0) tasks }
+    ensures v_after { v.new ≡ raised_at v.old (to * tasks) (λ t. get_or v.old (from * tasks + t) 0) tasks }
     ensures rose { Rose v.old v.new result }
 {
     let a = to * tasks;
@@ -49,7 +49,7 @@ pub fn raise_row(v: &mut [u16], to: usize, from: usize, tasks: usize) -> bool
 
 // How many of the numbers are at most x.
 fn at_most(s: &[u16], x: u16) -> u16
-    requires { length s.now ≤ mostEvents }
+    requires { length s.now ≤ most_events }
     ensures { result ≡ count (λ y. leb y x) s.now }
 {
     let mut n: u16 = 0;
@@ -65,9 +65,9 @@ fn at_most(s: &[u16], x: u16) -> u16
 
 // The k-th least, from 1, by halving a range that holds it.
 fn narrow(s: &[u16], k: u16, from: u16, to: u16) -> u16
-    requires s_len_bound { (length s.now ≤ mostEvents) × (k ≤ length s.now) }
-    requires from_bound { (from ≤ kthLeast k s.now) × (kthLeast k s.now ≤ to) }
-    ensures { result ≡ kthLeast k s.now }
+    requires s_len_bound { (length s.now ≤ most_events) × (k ≤ length s.now) }
+    requires from_bound { (from ≤ kth_least k s.now) × (kth_least k s.now ≤ to) }
+    ensures { result ≡ kth_least k s.now }
 {
     let mut lo = from;
     let mut hi = to;
@@ -86,8 +86,8 @@ fn narrow(s: &[u16], k: u16, from: u16, to: u16) -> u16
 // The larger of `own` and the k-th least. Where own is the larger, one look at the numbers is enough. In an accepted
 // recording no number is above 1,024, and that range is narrowed sooner; nothing here asks for it.
 fn or_kth(s: &[u16], k: u16, own: u16) -> u16
-    requires { (length s.now ≤ mostEvents) × (k ≤ length s.now) }
-    ensures { result ≡ max own (kthLeast k s.now) }
+    requires { (length s.now ≤ most_events) × (k ≤ length s.now) }
+    ensures { result ≡ max own (kth_least k s.now) }
 {
     if k <= at_most(s, own) {
         return own;
@@ -131,9 +131,9 @@ fn or_kth_of(
     own: u16,
     numbers: &mut [u16],
 ) -> u16
-    requires k_in_bounds { (k ≤ length events.now) × (length events.now ≤ mostEvents) × (mostEvents ≤ length numbers.old) }
+    requires k_in_bounds { (k ≤ length events.now) × (length events.now ≤ most_events) × (most_events ≤ length numbers.old) }
     requires by_index { (i : ℕ) → i < length events.now → get_or events.now i 0 * tasks + t < length v.now }
-    ensures { result ≡ max own (kthLeast k (column tasks v.now t events.now)) }
+    ensures { result ≡ max own (kth_least k (column tasks v.now t events.now)) }
 {
     gather(v, tasks, t, events, numbers);
     let c = events.len();
@@ -142,9 +142,9 @@ fn or_kth_of(
 
 // Raises vector e, task by task, to the k-th least number of the listed events, of which there are k.
 fn raise_each(v: &mut [u16], e: usize, tasks: usize, events: &[u16], k: u16) -> bool
-    requires tasks_in_bounds { (e * tasks + tasks ≤ length v.old) × (k ≤ length events.now) × (length events.now ≤ mostEvents) }
+    requires tasks_in_bounds { (e * tasks + tasks ≤ length v.old) × (k ≤ length events.now) × (length events.now ≤ most_events) }
     requires by_index { (i : ℕ) → i < length events.now → get_or events.now i 0 * tasks + tasks ≤ length v.old }
-    ensures v_after { v.new ≡ raisedAt v.old (e * tasks) (λ t. kthLeast k (column tasks v.old t events.now)) tasks }
+    ensures v_after { v.new ≡ raised_at v.old (e * tasks) (λ t. kth_least k (column tasks v.old t events.now)) tasks }
     ensures rose { Rose v.old v.new result }
 {
     let at = e * tasks;
@@ -164,9 +164,9 @@ fn raise_each(v: &mut [u16], e: usize, tasks: usize, events: &[u16], k: u16) -> 
 // Raises vector e, task by task, to the k-th least number of the listed events; fewer than k raise nothing.
 // Answers whether any number rose.
 pub fn raise_to_kth(v: &mut [u16], e: usize, tasks: usize, events: &[u16], k: u16) -> bool
-    requires tasks_in_bounds { (e * tasks + tasks ≤ length v.old) × (length events.now ≤ mostEvents) }
+    requires tasks_in_bounds { (e * tasks + tasks ≤ length v.old) × (length events.now ≤ most_events) }
     requires by_index { (i : ℕ) → i < length events.now → get_or events.now i 0 * tasks + tasks ≤ length v.old }
-    ensures v_after { v.new ≡ raisedAt v.old (e * tasks) (λ t. kthLeast k (column tasks v.old t events.now)) tasks }
+    ensures v_after { v.new ≡ raised_at v.old (e * tasks) (λ t. kth_least k (column tasks v.old t events.now)) tasks }
     ensures rose { Rose v.old v.new result }
 {
     if events.len() < k as usize {

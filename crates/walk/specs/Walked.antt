@@ -4,23 +4,23 @@ use Rattle.std.specs.Prelude.{ℕ, zero, suc, ◌/◌, ◌≤◌, ◌<◌, ◌�
 use Rattle.model.specs.declared.Item.{Item}
 use Rattle.model.specs.declared.Refusal.{Refusal}
 use Rattle.model.specs.declared.Reading.{Reading}
-use Rattle.model.specs.Recording.{eventIn}
-use Rattle.model.specs.File.{eventsOf}
-use Rattle.model.specs.Reading.{reading_of, recordsOf}
-use Rattle.model.specs.Walking.{stepAt}
+use Rattle.model.specs.Recording.{event_in}
+use Rattle.model.specs.File.{events_of}
+use Rattle.model.specs.Reading.{reading_of, records_of}
+use Rattle.model.specs.Walking.{step_at}
 
 -- the number of the next record after k steps from record 0
 unfoldable pub after : List ℕ → ℕ → ℕ
 after s zero = 0
-after s (suc k) = (stepAt s (after s k)).next
+after s (suc k) = (step_at s (after s k)).next
 
 -- proved as `walked` in proofs/Walked.antt
 pub record Walked : Type 0 where
   -- step k of a walk over the records' part s yields record k
-  pub yields : (s : List ℕ) (k : ℕ) → k < length s / 4 → (stepAt s (after s k)).item ≡ Item.Event (eventIn (eventsOf s) k)
+  pub yields : (s : List ℕ) (k : ℕ) → k < length s / 4 → (step_at s (after s k)).item ≡ Item.Event (event_in (events_of s) k)
   -- and after it record k + 1 is next
   pub goes_on : (s : List ℕ) (k : ℕ) → k ≤ length s / 4 → after s k ≡ k
   -- at or past the whole records a step yields the end, and the number stays
-  pub ends : (s : List ℕ) (n : ℕ) → length s / 4 ≤ n → stepAt s n ≡ record { item = Item.End; next = n }
+  pub ends : (s : List ℕ) (n : ℕ) → length s / 4 ≤ n → step_at s n ≡ record { item = Item.End; next = n }
   -- over a refused file every step does
-  pub refused : (f : List ℕ) (r : Refusal) → reading_of f ≡ Reading.Refused r → (n : ℕ) → stepAt (recordsOf f) n ≡ record { item = Item.End; next = n }
+  pub refused : (f : List ℕ) (r : Refusal) → reading_of f ≡ Reading.Refused r → (n : ℕ) → step_at (records_of f) n ≡ record { item = Item.End; next = n }

@@ -1,13 +1,13 @@
 // A walk over the records of a file.
 ghost use Rattle.std.specs.Prelude.{◌≡◌};
-ghost use Rattle.model.specs.Reading.{recordsOf};
-ghost use Rattle.model.specs.Walking.{stepAt};
+ghost use Rattle.model.specs.Reading.{records_of};
+ghost use Rattle.model.specs.Walking.{step_at};
 
 use model::{Item, Step};
 
 // A step of a walk: record `next` of the records' part, or the end.
 pub fn step_at(records: &[u8], next: usize) -> Step
-    ensures { result ≡ stepAt records.now next }
+    ensures { result ≡ step_at records.now next }
 {
     if next < records.len() / 4 {
         let v = events::event_at(records, next);
@@ -32,7 +32,7 @@ pub struct Walk<'a> {
 impl<'a> Walk<'a> {
     // A walk over the records of a file, from the first. Over a refused file it yields none.
     pub fn over(file: &'a [u8]) -> Walk<'a>
-        ensures { (result.records.now ≡ recordsOf file.now) × (result.next ≡ 0) }
+        ensures { (result.records.now ≡ records_of file.now) × (result.next ≡ 0) }
     {
         let records = recording::records(file);
         Walk { records, next: 0 }
@@ -40,9 +40,9 @@ impl<'a> Walk<'a> {
 
     // Yields the next record and moves on, or yields the end and stays.
     pub fn next(&mut self) -> Item
-        ensures { (result ≡ (stepAt self.old.records.now self.old.next).item)
+        ensures { (result ≡ (step_at self.old.records.now self.old.next).item)
             × (self.new.records ≡ self.old.records)
-            × (self.new.next ≡ (stepAt self.old.records.now self.old.next).next) }
+            × (self.new.next ≡ (step_at self.old.records.now self.old.next).next) }
     {
         let s = step_at(self.records, self.next);
         self.next = s.next;

@@ -11,25 +11,25 @@ use lib.Seq.{take_all, take_at, drop_at, drop-drop, length-take-le}
 use borrow.Rule.Slice.PartMut.{mid_of, put_mid}
 use Rattle.model.specs.declared.Counts.{Counts}
 use Rattle.model.specs.Recording.{Recording, size, tasks}
-use Rattle.model.specs.File.{eventsOf, recordingBy}
+use Rattle.model.specs.File.{events_of, recording_by}
 use Rattle.model.specs.Vectors.{flat}
-use Rattle.model.specs.Passes.{safeVectors}
+use Rattle.model.specs.Passes.{safe_vectors}
 use Rattle.model.specs.Recorded.{recorded}
-use Rattle.model.specs.Analysing.{workFits, filled}
+use Rattle.model.specs.Analysing.{work_fits, filled}
 use Rattle.model.proofs.Tests.{leb-true}
-use Rattle.model.proofs.Climb.{run-shaped}
-use Rattle.model.proofs.Recorded.{recorded-shaped}
-use Rattle.vectors.proofs.Chunks.{flat-length, chunks-flat}
-use Rattle.passes.specs.Lent.{vectorsIn}
-use Rattle.work.specs.Lent.{Ready, numbers, Roomy, safeIn, recordedIn}
+use Rattle.model.proofs.Climb.{run_shaped}
+use Rattle.model.proofs.Recorded.{recorded_shaped}
+use Rattle.vectors.proofs.Chunks.{flat_length, chunks_flat}
+use Rattle.passes.specs.Lent.{vectors_in}
+use Rattle.work.specs.Lent.{Ready, numbers, Roomy, safe_in, recorded_in}
 
-pub numbers-by : (s : List ℕ) (c : Counts) → Ready s c → (length s / 4 * c.tasks ≡ numbers s c) × (length s / 4 * c.tasks ≤ 16384)
-numbers-by s c r =
-    let e : length s / 4 ≡ length (eventsOf s) = omega (arith, r.records.whole) in
+pub numbers_by : (s : List ℕ) (c : Counts) → Ready s c → (length s / 4 * c.tasks ≡ numbers s c) × (length s / 4 * c.tasks ≤ 16384)
+numbers_by s c r =
+    let e : length s / 4 ≡ length (events_of s) = omega (arith, r.records.whole) in
     rw e (refl, omega (arith, mul-le-mul_right c.tasks r.records.few, r.tasks))
 
 -- there is room where the test says so
-pub roomy : (s : List ℕ) (c : Counts) (w : List ℕ) → workFits (recordingBy s c []) w ≡ true → Roomy s c w
+pub roomy : (s : List ℕ) (c : Counts) (w : List ℕ) → work_fits (recording_by s c []) w ≡ true → Roomy s c w
 roomy s c w p = leb-true (2 * numbers s c) (length w) p
 
 -- ---- two parts to read
@@ -38,23 +38,23 @@ module _ (w : List ℕ) (n : ℕ) (h : 2 * n ≤ length w) where
   pub first_part : length (take n w) ≡ n
   first_part = length-take-le n w (omega arith)
 
-  pub second-part : length (take (2 * n - n) (drop n w)) ≡ n
-  second-part =
+  pub second_part : length (take (2 * n - n) (drop n w)) ≡ n
+  second_part =
       let k : 2 * n - n ≡ n = omega arith in
       rw k (length-take-le n (drop n w) (omega (arith, length-drop n w)))
 
 -- the second are the recorded vectors
-pub second-vectors : (s : List ℕ) (c : Counts) (w : List ℕ) (n : ℕ) → n ≡ numbers s c → vectorsIn s c (take (2 * n - n) (drop n w)) ≡ recordedIn s c w
-second-vectors s c w n e = let k : 2 * n - n ≡ n = omega arith in rw (k, e)
+pub second_vectors : (s : List ℕ) (c : Counts) (w : List ℕ) (n : ℕ) → n ≡ numbers s c → vectors_in s c (take (2 * n - n) (drop n w)) ≡ recorded_in s c w
+second_vectors s c w n e = let k : 2 * n - n ≡ n = omega arith in rw (k, e)
 
 -- ---- two parts to write
 
 -- the part from a on is all that is left, and nothing is behind it
-mid-tail : (a : ℕ) (xs : List ℕ) → a ≤ length xs → mid_of a (length xs - a) xs ≡ drop a xs
-mid-tail a xs h = take_all (length xs - a) (drop a xs) (omega (arith, length-drop a xs))
+mid_tail : (a : ℕ) (xs : List ℕ) → a ≤ length xs → mid_of a (length xs - a) xs ≡ drop a xs
+mid_tail a xs h = take_all (length xs - a) (drop a xs) (omega (arith, length-drop a xs))
 
-put-tail : (a : ℕ) (xs ys : List ℕ) → a ≤ length xs → put_mid a (length xs - a) xs ys ≡ take a xs ++ ys
-put-tail a xs ys h =
+put_tail : (a : ℕ) (xs ys : List ℕ) → a ≤ length xs → put_mid a (length xs - a) xs ys ≡ take a xs ++ ys
+put_tail a xs ys h =
     let e : length (drop a xs) ≤ length xs - a = omega (arith, length-drop a xs) in
     rw (drop_of_length-le (drop a xs) e, append-nil ys)
 
@@ -64,45 +64,45 @@ module _ (n : ℕ) (w p : List ℕ) (k : length p ≡ n) (h : 2 * n ≤ length w
   long = omega (arith, length-append p (drop n w), length-drop n w)
 
   the_rest : mid_of n (length (p ++ drop n w) - n) (p ++ drop n w) ≡ drop n w
-  the_rest = mid-tail n (p ++ drop n w) (omega (arith, long)) ∙ drop_at p (drop n w) n k
+  the_rest = mid_tail n (p ++ drop n w) (omega (arith, long)) ∙ drop_at p (drop n w) n k
 
   -- there is room for as many behind them
-  pub rest-room : n ≤ length (mid_of n (length (p ++ drop n w) - n) (p ++ drop n w))
-  rest-room = omega (arith, ap length the_rest, length-drop n w)
+  pub rest_room : n ≤ length (mid_of n (length (p ++ drop n w) - n) (p ++ drop n w))
+  rest_room = omega (arith, ap length the_rest, length-drop n w)
 
   -- then the rest has become q
-  two-parts : (q z : List ℕ) → q ≡ z ++ drop n (mid_of n (length (p ++ drop n w) - n) (p ++ drop n w))
+  two_parts : (q z : List ℕ) → q ≡ z ++ drop n (mid_of n (length (p ++ drop n w) - n) (p ++ drop n w))
       → put_mid n (length (p ++ drop n w) - n) (p ++ drop n w) q ≡ p ++ (z ++ drop (2 * n) w)
-  two-parts q z e =
+  two_parts q z e =
       let d : n + n ≡ 2 * n = omega arith in
-      put-tail n (p ++ drop n w) q (omega (arith, long))
+      put_tail n (p ++ drop n w) q (omega (arith, long))
       ∙ ap₂ ◌++◌ (take_at p (drop n w) n k) (e ∙ ap (λ (l : List ℕ). z ++ drop n l) the_rest ∙ rw (drop-drop n n w, d))
 
-  pub filled-by : (E : Recording) (b : ℕ) (q : List ℕ) → n ≡ size E * tasks E → p ≡ flat (safeVectors E b)
+  pub filled_by : (E : Recording) (b : ℕ) (q : List ℕ) → n ≡ size E * tasks E → p ≡ flat (safe_vectors E b)
       → q ≡ flat (recorded E) ++ drop n (mid_of n (length (p ++ drop n w) - n) (p ++ drop n w))
       → put_mid n (length (p ++ drop n w) - n) (p ++ drop n w) q ≡ filled E b w
   unfolding filled
-  filled-by E b q m e f =
-      two-parts q (flat (recorded E)) f ∙ sym (append_assoc p (flat (recorded E)) (drop (2 * n) w)) ∙ rw (e, m)
+  filled_by E b q m e f =
+      two_parts q (flat (recorded E)) f ∙ sym (append_assoc p (flat (recorded E)) (drop (2 * n) w)) ∙ rw (e, m)
 
 -- ---- the vectors in work numbers that have been filled
 
 module _ (s : List ℕ) (c : Counts) (v : List ℕ) (b : ℕ) (w : List ℕ) where
   abbrev E : Recording
-  E = recordingBy s c v
+  E = recording_by s c v
 
-  safe-length : length (flat (safeVectors E b)) ≡ numbers s c
-  safe-length = flat-length (size E) c.tasks (safeVectors E b) (run-shaped E b)
+  safe_length : length (flat (safe_vectors E b)) ≡ numbers s c
+  safe_length = flat_length (size E) c.tasks (safe_vectors E b) (run_shaped E b)
 
-  pub safe-filled : safeIn s c (filled E b w) ≡ safeVectors E b
+  pub safe_filled : safe_in s c (filled E b w) ≡ safe_vectors E b
   unfolding filled
-  safe-filled =
-      rw (append_assoc (flat (safeVectors E b)) (flat (recorded E)) (drop (2 * numbers s c) w), take_at (flat (safeVectors E b)) (flat (recorded E) ++ drop (2 * numbers s c) w) (numbers s c) safe-length)
-      (chunks-flat (size E) c.tasks (safeVectors E b) (run-shaped E b))
+  safe_filled =
+      rw (append_assoc (flat (safe_vectors E b)) (flat (recorded E)) (drop (2 * numbers s c) w), take_at (flat (safe_vectors E b)) (flat (recorded E) ++ drop (2 * numbers s c) w) (numbers s c) safe_length)
+      (chunks_flat (size E) c.tasks (safe_vectors E b) (run_shaped E b))
 
-  pub recorded-filled : recordedIn s c (filled E b w) ≡ recorded E
+  pub recorded_filled : recorded_in s c (filled E b w) ≡ recorded E
   unfolding filled
-  recorded-filled =
-      let k = flat-length (size E) c.tasks (recorded E) (recorded-shaped E) in
-      rw (append_assoc (flat (safeVectors E b)) (flat (recorded E)) (drop (2 * numbers s c) w), drop_at (flat (safeVectors E b)) (flat (recorded E) ++ drop (2 * numbers s c) w) (numbers s c) safe-length, take_at (flat (recorded E)) (drop (2 * numbers s c) w) (numbers s c) k)
-      (chunks-flat (size E) c.tasks (recorded E) (recorded-shaped E))
+  recorded_filled =
+      let k = flat_length (size E) c.tasks (recorded E) (recorded_shaped E) in
+      rw (append_assoc (flat (safe_vectors E b)) (flat (recorded E)) (drop (2 * numbers s c) w), drop_at (flat (safe_vectors E b)) (flat (recorded E) ++ drop (2 * numbers s c) w) (numbers s c) safe_length, take_at (flat (recorded E)) (drop (2 * numbers s c) w) (numbers s c) k)
+      (chunks_flat (size E) c.tasks (recorded E) (recorded_shaped E))

@@ -12,59 +12,59 @@ use Rattle.model.specs.declared.Check.{Check}
 use Rattle.model.specs.declared.Reading.{Reading}
 use Rattle.model.specs.Refusals.{after}
 use Rattle.model.specs.Recording.{Recording, size}
-use Rattle.model.specs.File.{recordBytes, levelBytes, recordingBy}
-use Rattle.model.specs.Reading.{fileCheck, reading_of}
-use Rattle.model.specs.Analysing.{workFits, filled}
-use Rattle.model.specs.Question.{twoEvents, askedCheck, questionCheck}
+use Rattle.model.specs.File.{record_bytes, level_bytes, recording_by}
+use Rattle.model.specs.Reading.{file_check, reading_of}
+use Rattle.model.specs.Analysing.{work_fits, filled}
+use Rattle.model.specs.Question.{two_events, asked_check, question_check}
 use Rattle.model.proofs.Tests.{all_three, ltb-true}
-use Rattle.model.proofs.Checks.{unless-passed}
+use Rattle.model.proofs.Checks.{unless_passed}
 use Rattle.passes.specs.Lent.{Numbered}
 use Rattle.work.specs.Lent.{Roomy}
 use Rattle.work.proofs.Parts.{roomy}
-use Rattle.work.proofs.Accepted.{passed, the-recording}
+use Rattle.work.proofs.Accepted.{passed, the_recording}
 
 -- ---- the tests, and what the work numbers w become
 
 module _ (E : Recording) (x y b : ℕ) (w : List ℕ) where
   -- the checks answer k and leave w'
   abbrev pub Checked : Check → List ℕ → Type 0
-  Checked k w' = (k ≡ askedCheck E x y w) × (w' ≡ after k (λ _. filled E b w) w)
+  Checked k w' = (k ≡ asked_check E x y w) × (w' ≡ after k (λ _. filled E b w) w)
 
-  pub no-events : twoEvents E x y ≡ false → Checked (Check.Failed Refusal.Event) w
-  unfolding askedCheck
-  no-events p = (rw p, refl)
+  pub no_events : two_events E x y ≡ false → Checked (Check.Failed Refusal.Event) w
+  unfolding asked_check
+  no_events p = (rw p, refl)
 
-  module _ (t : twoEvents E x y ≡ true) where
-    pub no_room : workFits E w ≡ false → Checked (Check.Failed Refusal.Work) w
-    unfolding askedCheck
+  module _ (t : two_events E x y ≡ true) where
+    pub no_room : work_fits E w ≡ false → Checked (Check.Failed Refusal.Work) w
+    unfolding asked_check
     no_room p = (rw (t, p), refl)
 
-    pub all-passed : workFits E w ≡ true → (w' : List ℕ) → w' ≡ filled E b w → Checked Check.Passed w'
-    unfolding askedCheck
-    all-passed p w' k = (rw (t, p), k)
+    pub all_passed : work_fits E w ≡ true → (w' : List ℕ) → w' ≡ filled E b w → Checked Check.Passed w'
+    unfolding asked_check
+    all_passed p w' k = (rw (t, p), k)
 
 -- where they pass there are two events, and room
-pub asked-passed : (s : List ℕ) (c : Counts) (v : List ℕ) (x y : ℕ) (w : List ℕ) → askedCheck (recordingBy s c v) x y w ≡ Check.Passed
+pub asked_passed : (s : List ℕ) (c : Counts) (v : List ℕ) (x y : ℕ) (w : List ℕ) → asked_check (recording_by s c v) x y w ≡ Check.Passed
     → (Numbered s x × Numbered s y) × Roomy s c w
-unfolding askedCheck
-asked-passed s c v x y w p =
-    let E = recordingBy s c v in
+unfolding asked_check
+asked_passed s c v x y w p =
+    let E = recording_by s c v in
     let n = size E in
-    let (t, z) = unless-passed (twoEvents E x y) _ _ p in
-    let (r, _) = unless-passed (workFits E w) _ _ z in
+    let (t, z) = unless_passed (two_events E x y) _ _ p in
+    let (r, _) = unless_passed (work_fits E w) _ _ z in
     let (a, b, _) = all_three (ltb x n) (ltb y n) (not (eqb x y)) t in
     ((ltb-true x n a, ltb-true y n b), roomy s c w r)
 
 -- ---- of the whole file
 
 -- its own refusal comes first
-pub question-file : (f : List ℕ) (x y : ℕ) (w : List ℕ) (r : Refusal) → fileCheck f ≡ Check.Failed r → questionCheck f x y w ≡ Check.Failed r
-unfolding questionCheck
-question-file f x y w r p = rw p
+pub question_file : (f : List ℕ) (x y : ℕ) (w : List ℕ) (r : Refusal) → file_check f ≡ Check.Failed r → question_check f x y w ≡ Check.Failed r
+unfolding question_check
+question_file f x y w r p = rw p
 
 -- then the checks at the records s and the level bytes v that are cut out of it
-pub question-asked : (f : List ℕ) (h : Trailer) → reading_of f ≡ Reading.Accepted h → (s : List ℕ) → s ≡ recordBytes f h → (v : List ℕ) → v ≡ levelBytes f h
-    → (x y : ℕ) (w : List ℕ) (k : Check) → k ≡ askedCheck (recordingBy s h.counts v) x y w → questionCheck f x y w ≡ k
-unfolding questionCheck askedCheck
-question-asked f h q s e v g x y w k p =
-    rw (passed f h q) (sym (p ∙ ap (λ (F : Recording). askedCheck F x y w) (the-recording f h q s e v g)))
+pub question_asked : (f : List ℕ) (h : Trailer) → reading_of f ≡ Reading.Accepted h → (s : List ℕ) → s ≡ record_bytes f h → (v : List ℕ) → v ≡ level_bytes f h
+    → (x y : ℕ) (w : List ℕ) (k : Check) → k ≡ asked_check (recording_by s h.counts v) x y w → question_check f x y w ≡ k
+unfolding question_check asked_check
+question_asked f h q s e v g x y w k p =
+    rw (passed f h q) (sym (p ∙ ap (λ (F : Recording). asked_check F x y w) (the_recording f h q s e v g)))

@@ -3,22 +3,22 @@
 // fills such a memory, and these functions require what those have shown.
 ghost use Rattle.std.specs.Prelude.{◌≡◌, [], ◌≤◌};
 ghost use Rattle.model.specs.Refusals.{after};
-ghost use Rattle.model.specs.File.{recordingBy, eventsOf};
-ghost use Rattle.model.specs.Passes.{passesMade, isSettled};
+ghost use Rattle.model.specs.File.{recording_by, events_of};
+ghost use Rattle.model.specs.Passes.{passes_made, is_settled};
 ghost use Rattle.model.specs.Pairs.{entries};
-ghost use Rattle.model.specs.Analysing.{workFits, filled};
-ghost use Rattle.model.specs.Question.{relationBy, twoEvents, askedCheck};
-ghost use Rattle.passes.specs.Lent.{vectorsIn, Fitting, Numbered};
+ghost use Rattle.model.specs.Analysing.{work_fits, filled};
+ghost use Rattle.model.specs.Question.{relation_by, two_events, asked_check};
+ghost use Rattle.passes.specs.Lent.{vectors_in, Fitting, Numbered};
 ghost use Rattle.pairs.specs.Lent.{Width, WrittenList};
 ghost use Rattle.events.specs.Kept.{Positions};
-ghost use Rattle.work.specs.Lent.{Ready, numbers, Roomy, safeIn, recordedIn, inWork, budgetIn};
+ghost use Rattle.work.specs.Lent.{Ready, numbers, Roomy, safe_in, recorded_in, in_work, budget_in};
 
 use model::{Check, Counts, MOST_EVENTS, Refusal, Relation};
 use pairs::Listed;
 
 // N × N + 1: enough for the passes to settle.
 pub fn budget_of(records: &[u8]) -> u32
-    ensures { result ≡ budgetIn records.now }
+    ensures { result ≡ budget_in records.now }
 {
     let n = records.len() / 4;
     if n <= MOST_EVENTS {
@@ -40,7 +40,7 @@ fn numbers(records: &[u8], counts: Counts) -> usize
 // Whether the work numbers have room for the safe and the recorded vectors.
 pub fn work_fits(records: &[u8], counts: Counts, work: &[u16]) -> bool
     requires { Ready records.now counts }
-    ensures { result ≡ workFits (recordingBy records.now counts []) work.now }
+    ensures { result ≡ work_fits (recording_by records.now counts []) work.now }
 {
     2 * numbers(records, counts) <= work.len()
 }
@@ -48,7 +48,7 @@ pub fn work_fits(records: &[u8], counts: Counts, work: &[u16]) -> bool
 // Whether a and b are two different events of these records.
 fn two_events(records: &[u8], counts: Counts, a: usize, b: usize) -> bool
     requires { Ready records.now counts }
-    ensures { result ≡ twoEvents (recordingBy records.now counts []) a b }
+    ensures { result ≡ two_events (recording_by records.now counts []) a b }
 {
     let n = records.len() / 4;
     (a < n) & (b < n) & (a != b)
@@ -63,9 +63,9 @@ pub fn fill(
     budget: u32,
     work: &mut [u16],
 ) -> passes::Outcome
-    requires { Ready records.now counts × Roomy records.now counts work.old × Positions (eventsOf records.now) positions.now }
-    ensures passes_value { (result.passes ≡ passesMade (recordingBy records.now counts levels.now) budget) × (result.settled ≡ isSettled (recordingBy records.now counts levels.now) budget) }
-    ensures work_after { work.new ≡ filled (recordingBy records.now counts levels.now) budget work.old }
+    requires { Ready records.now counts × Roomy records.now counts work.old × Positions (events_of records.now) positions.now }
+    ensures passes_value { (result.passes ≡ passes_made (recording_by records.now counts levels.now) budget) × (result.settled ≡ is_settled (recording_by records.now counts levels.now) budget) }
+    ensures work_after { work.new ≡ filled (recording_by records.now counts levels.now) budget work.old }
 {
     let half = numbers(records, counts);
     let sources = events::sources(records);
@@ -103,9 +103,9 @@ pub fn fill_asked(
     budget: u32,
     work: &mut [u16],
 ) -> Check
-    requires { Ready records.now counts × Positions (eventsOf records.now) positions.now }
-    ensures value { result ≡ askedCheck (recordingBy records.now counts levels.now) a b work.old }
-    ensures work_after { work.new ≡ after result (λ _. filled (recordingBy records.now counts levels.now) budget work.old) work.old }
+    requires { Ready records.now counts × Positions (events_of records.now) positions.now }
+    ensures value { result ≡ asked_check (recording_by records.now counts levels.now) a b work.old }
+    ensures work_after { work.new ≡ after result (λ _. filled (recording_by records.now counts levels.now) budget work.old) work.old }
 {
     if !two_events(records, counts, a, b) {
         return Check::Failed(Refusal::Event);
@@ -120,7 +120,7 @@ pub fn fill_asked(
 // The safe vectors in the work numbers, as numbers.
 pub fn safe_part<'a>(records: &[u8], counts: Counts, work: &'a [u16]) -> &'a [u16]
     requires { Ready records.now counts × Roomy records.now counts work.now }
-    ensures { (vectorsIn records.now counts result.now ≡ safeIn records.now counts work.now) × Fitting records.now counts result.now }
+    ensures { (vectors_in records.now counts result.now ≡ safe_in records.now counts work.now) × Fitting records.now counts result.now }
 {
     let half = numbers(records, counts);
     &work[..half]
@@ -129,7 +129,7 @@ pub fn safe_part<'a>(records: &[u8], counts: Counts, work: &'a [u16]) -> &'a [u1
 // The recorded vectors behind them.
 pub fn recorded_part<'a>(records: &[u8], counts: Counts, work: &'a [u16]) -> &'a [u16]
     requires { Ready records.now counts × Roomy records.now counts work.now }
-    ensures { (vectorsIn records.now counts result.now ≡ recordedIn records.now counts work.now) × Fitting records.now counts result.now }
+    ensures { (vectors_in records.now counts result.now ≡ recorded_in records.now counts work.now) × Fitting records.now counts result.now }
 {
     let half = numbers(records, counts);
     let stop = 2 * half;
@@ -145,8 +145,8 @@ pub fn list_pairs(
     width: usize,
     list: &mut [u16],
 ) -> Listed
-    requires { Ready records.now counts × Roomy records.now counts work.now × Positions (eventsOf records.now) positions.now × Width width }
-    ensures { WrittenList width (inWork entries records.now counts work.now) list.old list.new result.fits result.pairs }
+    requires { Ready records.now counts × Roomy records.now counts work.now × Positions (events_of records.now) positions.now × Width width }
+    ensures { WrittenList width (in_work entries records.now counts work.now) list.old list.new result.fits result.pairs }
 {
     let safe = safe_part(records, counts, work);
     let recorded = recorded_part(records, counts, work);
@@ -162,9 +162,9 @@ pub fn relate(
     a: usize,
     b: usize,
 ) -> Relation
-    requires ready { Ready records.now counts × Roomy records.now counts work.now × Positions (eventsOf records.now) positions.now }
+    requires ready { Ready records.now counts × Roomy records.now counts work.now × Positions (events_of records.now) positions.now }
     requires numbered { Numbered records.now a × Numbered records.now b }
-    ensures { result ≡ inWork relationBy records.now counts work.now a b }
+    ensures { result ≡ in_work relation_by records.now counts work.now a b }
 {
     let safe = safe_part(records, counts, work);
     let recorded = recorded_part(records, counts, work);

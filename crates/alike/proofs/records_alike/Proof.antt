@@ -6,8 +6,8 @@ use native.Mathlib.Omega.{arith}
 use borrow.Author.Rules.{rules}
 use lib.ListN.{length, get_or}
 use borrow.Author.Tests.{not-true, not-false}
-use Rattle.model.specs.Together.{sameRecord}
-use Rattle.alike.proofs.Left.{Own, first-own, next-own, both_below, sameAt, Beside, first-events, next-events, differ, missing, same-to-end}
+use Rattle.model.specs.Together.{same_record}
+use Rattle.alike.proofs.Left.{Own, first_own, next_own, both_below, same_at, Beside, first_events, next_events, differ, missing, same_to_end}
 use Rattle.alike.proofs.records_alike.Statement.{statement}
 use Rattle.alike.proofs.records_alike.Tie as tie
 
@@ -20,9 +20,9 @@ decreases-loop first second first-chain second-chain task n m head position₀ a
 loop-holds : tie.Need-loop-init invariant-loop decreases-loop
 loop-holds c =
     let s = c.before.before.before.before.before.before in
-    first-events _ _ s.args.task _ _
-    (rw c.before.before.at_place.ensures (first-own _ _ _ s.requires.0 s.requires.2))
-    (rw c.at-place2.ensures (first-own _ _ _ s.requires.1 s.requires.2))
+    first_events _ _ s.args.task _ _
+    (rw c.before.before.at_place.ensures (first_own _ _ _ s.requires.0 s.requires.2))
+    (rw c.at-place2.ensures (first_own _ _ _ s.requires.1 s.requires.2))
 
 -- the two events at hand, and the next ones
 module _ (c : tie.In-loop invariant-loop decreases-loop) where
@@ -36,16 +36,16 @@ module _ (c : tie.In-loop invariant-loop decreases-loop) where
   inside = both_below _ _ _ _ c.loop-test.true
 
   near : Own s.args.first.now s.args.task (k.loop.a + 1) (get_or s.args.first-chain.now k.loop.a 0)
-  near = next-own _ _ _ s.pre.0 s.pre.2 _ inside.0 k.loop.inv.here
+  near = next_own _ _ _ s.pre.0 s.pre.2 _ inside.0 k.loop.inv.here
 
   other-near : Own s.args.second.now s.args.task (k.loop.b + 1) (get_or s.args.second-chain.now k.loop.b 0)
-  other-near = next-own _ _ _ s.pre.1 s.pre.2 _ inside.1 k.loop.inv.there
+  other-near = next_own _ _ _ s.pre.1 s.pre.2 _ inside.1 k.loop.inv.there
 
 -- what the code's test of them says
 told : (c : tie.After-same-record invariant-loop decreases-loop)
     → let d = c.before.before.before in
-    c.same-record.result ≡ sameAt (s d).args.first.now (s d).args.second.now (k d).loop.a (k d).loop.b
-told c = c.same-record.ensures ∙ ap₂ sameRecord c.before.before.event-at.ensures c.before.event-at2.ensures
+    c.same-record.result ≡ same_at (s d).args.first.now (s d).args.second.now (k d).loop.a (k d).loop.b
+told c = c.same-record.ensures ∙ ap₂ same_record c.before.before.event_at.ensures c.before.event-at2.ensures
 
 returns : tie.Need-returns invariant-loop decreases-loop
 returns c =
@@ -56,7 +56,7 @@ loop-again : tie.Need-loop-preserved invariant-loop decreases-loop
 loop-again c =
     let t = c.before.before.before.before in
     let d = t.before.before.before.before in
-    next-events _ _ _ _ _ _ (k d).loop.invariant (inside d).0 (inside d).1 _ _ (sym (told t.before) ∙ not-false _ t.if1.false)
+    next_events _ _ _ _ _ _ (k d).loop.invariant (inside d).0 (inside d).1 _ _ (sym (told t.before) ∙ not-false _ t.if1.false)
     (rw c.before.before.at-place3.ensures (near d))
     (rw c.at-place4.ensures (other-near d))
 
@@ -64,7 +64,7 @@ returns-2 : tie.Need-returns-2 invariant-loop decreases-loop
 returns-2 c = missing _ _ _ _ _ _ c.before.before.loop.invariant c.before.loop-test.false c.if2.true
 
 returns-3 : tie.Need-returns-3 invariant-loop decreases-loop
-returns-3 c = same-to-end _ _ _ _ _ _ c.before.before.loop.invariant c.if2.false
+returns-3 c = same_to_end _ _ _ _ _ _ c.before.before.loop.invariant c.if2.false
 
 pub records-alike-spec : {M : Type 1} → statement M
 records-alike-spec =

@@ -1,11 +1,11 @@
 -- `alike::same_counts` meets its contract: it is the definition, test by test. Assumes nothing.
 use borrow.Author.Rules.{rules}
-use Rattle.model.specs.Together.{sameCounts}
+use Rattle.model.specs.Together.{same_counts}
 use Rattle.alike.proofs.same_counts.Statement.{statement}
 use Rattle.alike.proofs.same_counts.Tie as tie
 
 returns : tie.Need-returns
-unfolding sameCounts
+unfolding same_counts
 returns c =
     let f = c.before.before.before.before in
     rw (f.flags2.ensures, f.before.flags.ensures, f.before.before.semaphores2.ensures, f.before.before.before.semaphores.ensures)

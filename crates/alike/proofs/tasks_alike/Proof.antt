@@ -5,21 +5,21 @@ use Prim.Native.Nat.{◌-◌, ◌≤◌}
 use native.Mathlib.Omega.{arith}
 use borrow.Author.Rules.{rules}
 use Rattle.model.specs.declared.Check.{Check}
-use Rattle.model.specs.File.{eventsOf}
-use Rattle.model.specs.Together.{tasksAlike}
-use Rattle.alike.proofs.Laws.{alike-so-far, first-differing}
+use Rattle.model.specs.File.{events_of}
+use Rattle.model.specs.Together.{tasks_alike}
+use Rattle.alike.proofs.Laws.{alike_so_far, first_differing}
 use Rattle.alike.proofs.tasks_alike.Statement.{statement}
 use Rattle.alike.proofs.tasks_alike.Tie as tie
 
 abbrev invariant-loop : tie.invariant-loop
 invariant-loop first second tasks first-chain second-chain task₀ task =
-    (task ≤ tasks) × (Check.Passed ≡ tasksAlike (eventsOf first) (eventsOf second) task)
+    (task ≤ tasks) × (Check.Passed ≡ tasks_alike (events_of first) (events_of second) task)
 
 abbrev decreases-loop : tie.decreases-loop
 decreases-loop first second tasks first-chain second-chain task₀ task = tasks - task
 
 loop-holds : tie.Need-loop-init invariant-loop decreases-loop
-unfolding tasksAlike
+unfolding tasks_alike
 loop-holds c = (omega arith, refl)
 
 records-alike-requires : tie.Need-records-alike-requires invariant-loop decreases-loop
@@ -34,13 +34,13 @@ returns : tie.Need-returns invariant-loop decreases-loop
 returns c =
     let r = c.before.before.before in
     let t = r.before.before.before in
-    first-differing _ _ _ _ t.before.loop.invariant.1 r.records-alike.ensures _ c.before.check.given.1 _ t.loop-test.true
+    first_differing _ _ _ _ t.before.loop.invariant.1 r.records-alike.ensures _ c.before.check.given.1 _ t.loop-test.true
 
 loop-again : tie.Need-loop-preserved invariant-loop decreases-loop
 loop-again c =
     let r = c.before.before in
     let t = r.before.before.before in
-    (omega arith, alike-so-far _ _ _ _ t.before.loop.invariant.1 r.records-alike.ensures c.enum_told.given.1)
+    (omega arith, alike_so_far _ _ _ _ t.before.loop.invariant.1 r.records-alike.ensures c.enum_told.given.1)
 
 returns-2 : tie.Need-returns-2 invariant-loop decreases-loop
 returns-2 c =

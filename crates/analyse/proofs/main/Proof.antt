@@ -1,13 +1,13 @@
 -- `analyse::main` is safe and ends: what was read and what is to be written are parts of the buffers. Assumes nothing.
 use native.Mathlib.Omega.{arith}
 use borrow.Author.Rules.{rules}
-use Rattle.printing.proofs.Putting.{filling-within}
+use Rattle.printing.proofs.Putting.{filling_within}
 use Rattle.analyse.proofs.main.Statement.{statement}
 use Rattle.analyse.proofs.main.Tie as tie
 
 part-write-all-end : tie.Need-slice-bounds-write-all-end
 part-write-all-end c =
-    let c1 = c.before.before.before.before in filling-within _ _ _ _ c1.report.ensures.0 c1.report.ensures.1.0
+    let c1 = c.before.before.before.before in filling_within _ _ _ _ c1.report.ensures.0 c1.report.ensures.1.0
 
 pub main_spec : {M : Type 1} → statement M
 main_spec =

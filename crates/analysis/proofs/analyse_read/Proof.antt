@@ -8,9 +8,9 @@ use Rattle.model.specs.declared.Refusal.{Refusal}
 use Rattle.model.specs.declared.Analysis.{Analysis}
 use Rattle.work.specs.Lent.{Ready, Roomy}
 use Rattle.work.proofs.Parts.{roomy}
-use Rattle.work.proofs.Accepted.{inside, levels-inside, ready}
+use Rattle.work.proofs.Accepted.{inside, levels_inside, ready}
 use Rattle.analysis.specs.Lent.{Analysed}
-use Rattle.analysis.proofs.Cases.{no-records, short-work, ended}
+use Rattle.analysis.proofs.Cases.{no_records, short_work, ended}
 use Rattle.analysis.proofs.analyse_read.Statement.{statement}
 use Rattle.analysis.proofs.analyse_read.Tie as tie
 
@@ -18,7 +18,7 @@ use Rattle.analysis.proofs.analyse_read.Tie as tie
 returns : tie.Need-returns
 returns c =
     let s = c.before.before.before.before.before.before in
-    no-records s.args.file.now s.args.trailer s.requires c.before.if1.true _ _ _ _ c.analyse-none.ensures
+    no_records s.args.file.now s.args.trailer s.requires c.before.if1.true _ _ _ _ c.analyse-none.ensures
 
 -- the records and the level bytes are cut out of the file
 module _ (l : tie.After-levels-of) where
@@ -42,7 +42,7 @@ module _ (t : tie.Else2) where
 returns-2 : tie.Need-returns-2
 returns-2 c =
     let l = c.before.before.before in
-    short-work (s l).args.file.now (s l).args.trailer (s l).requires _ (r l).records-of.ensures _ l.levels-of.ensures _ _ _
+    short_work (s l).args.file.now (s l).args.trailer (s l).requires _ (r l).records-of.ensures _ l.levels-of.ensures _ _ _
     (sym c.before.work-fits.ensures ∙ not-true _ c.if2.true)
 
 list-pairs-requires : tie.Need-list-pairs-requires
@@ -84,7 +84,7 @@ analyse-read-spec =
     (λ c κs. search rules)
     returns
     (λ c κs. inside _ _ c.before.before.before.before.before.requires)
-    (λ c κs. levels-inside _ _ c.before.before.before.before.before.before.before.requires)
+    (λ c κs. levels_inside _ _ c.before.before.before.before.before.before.before.requires)
     (λ c κs. all-ready c.before)
     (λ c. search rules)
     returns-2

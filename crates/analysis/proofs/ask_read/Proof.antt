@@ -4,8 +4,8 @@ use mathlib.Core.Path.{sym, ◌∙◌}
 use borrow.Author.Rules.{rules}
 use Rattle.passes.specs.Lent.{Numbered}
 use Rattle.work.specs.Lent.{Ready, Roomy}
-use Rattle.work.proofs.Accepted.{inside, levels-inside, ready}
-use Rattle.work.proofs.Questions.{asked-passed}
+use Rattle.work.proofs.Accepted.{inside, levels_inside, ready}
+use Rattle.work.proofs.Questions.{asked_passed}
 use Rattle.analysis.proofs.Cases.{refused, answered}
 use Rattle.analysis.proofs.ask_read.Statement.{statement}
 use Rattle.analysis.proofs.ask_read.Tie as tie
@@ -30,7 +30,7 @@ module _ (c : tie.After-enum-told) where
   l = k.before.before.before.before
 
   passed : (Numbered (r l).records-of.result.now (s l).args.a × Numbered (r l).records-of.result.now (s l).args.b) × Roomy (r l).records-of.result.now (s l).args.trailer.counts (s l).args.work.now
-  passed = asked-passed _ _ _ _ _ _ (sym k.fill-asked.ensures.0 ∙ c.enum_told.given.1)
+  passed = asked_passed _ _ _ _ _ _ (sym k.fill-asked.ensures.0 ∙ c.enum_told.given.1)
 
 relate-requires : tie.Need-relate-requires
 relate-requires c κs =
@@ -58,7 +58,7 @@ ask-read-spec =
     tie.close
     (tie.spec
     (λ c κs. inside _ _ c.before.before.requires)
-    (λ c κs. levels-inside _ _ c.before.before.before.before.requires)
+    (λ c κs. levels_inside _ _ c.before.before.before.before.requires)
     (λ c κs. let p = (all-ready c).records in omega (arith, p.whole, p.few))
     (λ c κs. let p = c.before.before in (all-ready p.before, p.positions.ensures))
     (λ c. search rules)

@@ -5,8 +5,8 @@ use native.Mathlib.Omega.{arith}
 use borrow.Fn.Kinds.{In}
 use borrow.Fn.PlainCycle.{Measures, is, falls, and}
 use Rattle.model.proofs.Tests.{eq-eqb, ne_eqb}
-use Rattle.events.proofs.Laws.{last_none, last-here, last-lower}
-use Rattle.events.proofs.Kept.{at-number, no_number}
+use Rattle.events.proofs.Laws.{last_none, last_here, last_lower}
+use Rattle.events.proofs.Kept.{at_number, no_number}
 use Rattle.events.proofs.task_before.Reads as task-before
 use Rattle.events.proofs.task_before.Kinds as kinds
 use Rattle.events.proofs.+task_before.Lts-task_before as lts
@@ -31,8 +31,8 @@ pub +task-before-spec : {M : Type 1} → statement M
     (λ c. omega arith)
     (λ c.
     let n = c.before.before.before.args.n in
-    sym (at-number 1024 (n - 1) (omega arith)) ∙ last-here _ n (n - 1) _ (omega arith) refl (eq-eqb _ _ c.if2.true))
+    sym (at_number 1024 (n - 1) (omega arith)) ∙ last_here _ n (n - 1) _ (omega arith) refl (eq-eqb _ _ c.if2.true))
     (λ c κs. omega arith)
     (λ c.
     let n = c.before.before.before.before.args.n in
-    c.task-before.ensures ∙ last-lower _ n (n - 1) _ (omega arith) refl (ne_eqb _ _ c.before.if2.false))
+    c.task-before.ensures ∙ last_lower _ n (n - 1) _ (omega arith) refl (ne_eqb _ _ c.before.if2.false))

@@ -5,10 +5,10 @@ use native.Mathlib.Omega.{arith}
 use borrow.Author.Rules.{rules}
 use lib.ListN.{length}
 use Rattle.model.specs.declared.Event.{Event}
-use Rattle.model.specs.Recording.{eventIn}
-use Rattle.model.specs.File.{eventsOf}
-use Rattle.events.specs.Chains.{slotOf, Chained}
-use Rattle.events.proofs.Chains.{start, next-by, in_slot, slots-gathered}
+use Rattle.model.specs.Recording.{event_in}
+use Rattle.model.specs.File.{events_of}
+use Rattle.events.specs.Chains.{slot_of, Chained}
+use Rattle.events.proofs.Chains.{start, next_by, in_slot, slots_gathered}
 use Rattle.events.proofs.gather.Statement.{statement}
 use Rattle.events.proofs.gather.Tie as tie
 
@@ -24,18 +24,18 @@ loop-holds c = (omega arith, start _ _ _ (omega arith))
 loop-again : tie.Need-loop-preserved invariant-loop decreases-loop
 loop-again c =
     let y = c.before.slot_of in
-    let v = c.before.before.before.event-at in
+    let v = c.before.before.before.event_at in
     let k = c.before.before.before.before.before.loop in
-    let l = eventsOf c.before.before.before.before.before.before.before.args.records.now in
+    let l = events_of c.before.before.before.before.before.before.before.args.records.now in
     let e : k.e ≡ k.e - 1 + 1 = omega arith in (
       omega arith,
       rw c.put_first.ensures
-          (next-by (λ i. slotOf (eventIn l i).kind (eventIn l i).object) _ _ _ y.result _ (rw e at k.invariant.1) (sym (y.ensures.0 ∙ ap (λ (w : Event). slotOf w.kind w.object) v.ensures)) (omega arith)
+          (next_by (λ i. slot_of (event_in l i).kind (event_in l i).object) _ _ _ y.result _ (rw e at k.invariant.1) (sym (y.ensures.0 ∙ ap (λ (w : Event). slot_of w.kind w.object) v.ensures)) (omega arith)
           (omega arith) (omega arith) (omega arith)),
     )
 
 returns : tie.Need-returns invariant-loop decreases-loop
-returns c = let e : c.before.loop.e ≡ 0 = omega arith in slots-gathered _ _ (rw e at c.before.loop.invariant.1)
+returns c = let e : c.before.loop.e ≡ 0 = omega arith in slots_gathered _ _ (rw e at c.before.loop.invariant.1)
 
 pub gather-spec : {M : Type 1} → statement M
 gather-spec =

@@ -3,16 +3,16 @@ use mathlib.Core.Path.{◌≡◌}
 use Prim.Native.Nat.{◌+◌, ◌*◌, ◌-◌, ◌/◌, ◌≤◌, ◌<◌}
 use native.Mathlib.Omega.{arith}
 use lib.ListN.{length, get_or}
-use Rattle.model.specs.Recording.{eventIn}
-use Rattle.model.specs.File.{eventsOf}
-use Rattle.events.specs.Chains.{byTask, Chained}
-use Rattle.events.proofs.Laws.{task-at}
-use Rattle.events.proofs.Chains.{start, next-by}
+use Rattle.model.specs.Recording.{event_in}
+use Rattle.model.specs.File.{events_of}
+use Rattle.events.specs.Chains.{by_task, Chained}
+use Rattle.events.proofs.Laws.{task_at}
+use Rattle.events.proofs.Chains.{start, next_by}
 use Rattle.events.proofs.gather_tasks.Statement.{statement}
 use Rattle.events.proofs.gather_tasks.Tie as tie
 
 abbrev invariant-loop : tie.invariant-loop
-invariant-loop records e₀ none chain₀ e chain = (e ≤ length records / 4) × Chained (byTask records) (length records / 4) 256 e chain
+invariant-loop records e₀ none chain₀ e chain = (e ≤ length records / 4) × Chained (by_task records) (length records / 4) 256 e chain
 
 abbrev decreases-loop : tie.decreases-loop
 decreases-loop records e₀ none chain₀ e chain = e
@@ -28,11 +28,11 @@ loop-again : tie.Need-loop-preserved invariant-loop decreases-loop
 loop-again c =
     let k = c.before.before.before.before.loop in
     let s = c.before.before.before.before.before.before.args.records.now in
-    let t = task-at s (k.e - 1) (omega arith) in
+    let t = task_at s (k.e - 1) (omega arith) in
     let e : k.e ≡ k.e - 1 + 1 = omega arith in (
       omega arith,
       rw c.put_first.ensures
-          (next-by (λ i. (eventIn (eventsOf s) i).task) _ _ _ _ _ (rw e at k.invariant.1) t (byte c.before) (omega arith) (omega arith) (omega arith)),
+          (next_by (λ i. (event_in (events_of s) i).task) _ _ _ _ _ (rw e at k.invariant.1) t (byte c.before) (omega arith) (omega arith) (omega arith)),
     )
 
 returns : tie.Need-returns invariant-loop decreases-loop

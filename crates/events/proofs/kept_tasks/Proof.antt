@@ -3,9 +3,9 @@ use mathlib.Core.Path.{◌≡◌, sym}
 use Prim.Native.Nat.{ℕ, ◌-◌, ◌≤◌, ◌<◌}
 use native.Mathlib.Omega.{arith}
 use lib.ListN.{length, get_or, length-set, length-replicate}
-use Rattle.model.specs.Recording.{eventIn}
-use Rattle.model.specs.File.{eventsOf}
-use Rattle.events.proofs.Laws.{events-length, task-at}
+use Rattle.model.specs.Recording.{event_in}
+use Rattle.model.specs.File.{events_of}
+use Rattle.events.proofs.Laws.{events_length, task_at}
 use Rattle.events.proofs.Kept.{kept_next}
 use Rattle.events.proofs.kept_tasks.Statement.{statement}
 use Rattle.events.proofs.kept_tasks.Tie as tie
@@ -14,7 +14,7 @@ abbrev invariant-loop : tie.invariant-loop
 invariant-loop records n tasks₀ e₀ tasks e =
     (e ≤ n)
     × (length tasks ≡ 1024)
-    × ((i : ℕ) → i < e → get_or tasks i 0 ≡ (eventIn (eventsOf records) i).task)
+    × ((i : ℕ) → i < e → get_or tasks i 0 ≡ (event_in (events_of records) i).task)
 
 abbrev decreases-loop : tie.decreases-loop
 decreases-loop records n tasks₀ e₀ tasks e = n - e
@@ -28,12 +28,12 @@ loop-again c =
     let k = c.before.before.loop in (
       omega arith,
       simp length-set k.invariant.1,
-      kept_next (λ i a. a ≡ (eventIn (eventsOf s) i).task) k.tasks k.e _ (omega arith) k.invariant.2 (sym (task-at s k.e (omega arith))),
+      kept_next (λ i a. a ≡ (event_in (events_of s) i).task) k.tasks k.e _ (omega arith) k.invariant.2 (sym (task_at s k.e (omega arith))),
     )
 
 returns : tie.Need-returns invariant-loop decreases-loop
 returns c e l =
-    let n = events-length c.before.before.args.records.now in
+    let n = events_length c.before.before.args.records.now in
     c.before.loop.invariant.2 e (omega arith)
 
 pub kept-tasks-spec : {M : Type 1} → statement M

@@ -3,15 +3,15 @@ use mathlib.Core.Path.{◌≡◌, refl, ◌∙◌}
 use Prim.Native.Nat.{◌≤◌}
 use native.Mathlib.Omega.{arith}
 use Rattle.model.specs.Numbers.{last_of}
-use Rattle.model.specs.Recording.{isOn, eventIn}
-use Rattle.model.specs.File.{eventsOf}
-use Rattle.events.proofs.Laws.{last_none, last-here, last-lower}
+use Rattle.model.specs.Recording.{is_on, event_in}
+use Rattle.model.specs.File.{events_of}
+use Rattle.events.proofs.Laws.{last_none, last_here, last_lower}
 use Rattle.events.proofs.last_on.Statement.{statement}
 use Rattle.events.proofs.last_on.Tie as tie
 
 abbrev invariant-loop : tie.invariant-loop
 invariant-loop records n kind object i₀ i =
-    (i ≤ n) × (last_of (λ a. isOn kind object (eventIn (eventsOf records) a)) i ≡ last_of (λ a. isOn kind object (eventIn (eventsOf records) a)) n)
+    (i ≤ n) × (last_of (λ a. is_on kind object (event_in (events_of records) a)) i ≡ last_of (λ a. is_on kind object (event_in (events_of records) a)) n)
 
 abbrev decreases-loop : tie.decreases-loop
 decreases-loop records n kind object i₀ i = i
@@ -22,14 +22,14 @@ loop-holds c = (omega arith, refl)
 returns : tie.Need-returns invariant-loop decreases-loop
 returns c =
     let k = c.before.before.before.loop in
-    last-here _ k.i _ _ (omega arith) c.before.is-on.ensures c.if1.true
+    last_here _ k.i _ _ (omega arith) c.before.is-on.ensures c.if1.true
     ∙ k.invariant.1
 
 loop-again : tie.Need-loop-preserved invariant-loop decreases-loop
 loop-again c =
     let k = c.before.before.before.loop in (
       omega arith,
-      last-lower _ k.i _ _ (omega arith) c.before.is-on.ensures c.if1.false
+      last_lower _ k.i _ _ (omega arith) c.before.is-on.ensures c.if1.false
           ∙ k.invariant.1,
     )
 

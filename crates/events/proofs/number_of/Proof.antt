@@ -3,7 +3,7 @@ use mathlib.Core.Path.{sym, ◌∙◌}
 use Prim.Native.Nat.{◌<◌}
 use native.Mathlib.Omega.{arith}
 use borrow.Author.Rules.{rules}
-use Rattle.events.proofs.Kept.{told_below, at-number, no_number}
+use Rattle.events.proofs.Kept.{told_below, at_number, no_number}
 use Rattle.events.proofs.number_of.Statement.{statement}
 use Rattle.events.proofs.number_of.Tie as tie
 
@@ -19,5 +19,5 @@ number-of-spec =
     (λ c. omega (arith, inside c.before))
     (λ c. search rules)
     (λ c. search rules)
-    (λ c. (sym (c.before.found.given.1 ∙ at-number _ _ (inside c.before)), omega (arith, inside c.before)))
+    (λ c. (sym (c.before.found.given.1 ∙ at_number _ _ (inside c.before)), omega (arith, inside c.before)))
     (λ c. (sym (c.enum_told.given.1 ∙ no_number c.before.before.args.n c.before.before.args.n (omega arith)), omega arith)))

@@ -4,10 +4,10 @@ use mathlib.Core.Path.{◌≡◌, refl}
 use Prim.Native.Nat.{ℕ, ◌-◌, ◌*◌, ◌≤◌, ◌<◌}
 use native.Mathlib.Omega.{arith}
 use lib.ListN.{length, get_or, length-set, length-replicate}
-use Rattle.model.specs.File.{eventsOf}
+use Rattle.model.specs.File.{events_of}
 use Rattle.model.specs.Vectors.{position}
 use Rattle.events.specs.Running.{Running}
-use Rattle.events.proofs.Laws.{events-length}
+use Rattle.events.proofs.Laws.{events_length}
 use Rattle.events.proofs.Kept.{kept_next}
 use Rattle.events.proofs.Running.{start, next, placed, few}
 use Rattle.events.proofs.positions.Statement.{statement}
@@ -18,7 +18,7 @@ invariant-loop records n positions₀ own₀ e₀ positions own e =
     (e ≤ n)
     × (length positions ≡ 1024)
     × Running records e own
-    × ((i : ℕ) → i < e → get_or positions i 0 ≡ position (eventsOf records) i)
+    × ((i : ℕ) → i < e → get_or positions i 0 ≡ position (events_of records) i)
 
 abbrev decreases-loop : tie.decreases-loop
 decreases-loop records n positions₀ own₀ e₀ positions own e = n - e
@@ -44,14 +44,14 @@ loop-again c =
       omega arith,
       simp length-set k.invariant.1,
       next s k.e t k.own k.invariant.2 (omega arith) refl (task-byte c),
-      kept_next (λ i a. a ≡ position (eventsOf s) i) k.positions k.e _ (omega arith) k.invariant.3
+      kept_next (λ i a. a ≡ position (events_of s) i) k.positions k.e _ (omega arith) k.invariant.3
           (placed s k.e t k.own k.invariant.2 (omega arith) refl (task-byte c)),
     )
 
 returns : tie.Need-returns invariant-loop decreases-loop
 returns c =
     let k = c.before.loop in
-    let n = events-length c.before.before.args.records.now in
+    let n = events_length c.before.before.args.records.now in
     record { room = omega arith; placed = λ e l. k.invariant.3 e (omega arith) }
 
 pub positions-spec : {M : Type 1} → statement M

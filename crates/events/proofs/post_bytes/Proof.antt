@@ -5,7 +5,7 @@ use native.Mathlib.Omega.{arith}
 use borrow.Author.Rules.{rules}
 use lib.ListN.{length, drop, length-drop, drop_of_length-le}
 use lib.Seq.{take_all}
-use Rattle.model.specs.File.{startCount}
+use Rattle.model.specs.File.{start_count}
 use Rattle.events.proofs.post_bytes.Statement.{statement}
 use Rattle.events.proofs.post_bytes.Tie as tie
 
@@ -18,7 +18,7 @@ returns c =
 returns-2 : tie.Need-returns-2
 returns-2 c =
     let a = c.before.before.before.before.args in
-    sym (drop_of_length-le a.levels.now {i = startCount a.counts} (omega arith))
+    sym (drop_of_length-le a.levels.now {i = start_count a.counts} (omega arith))
 
 pub post-bytes-spec : {M : Type 1} → statement M
 post-bytes-spec =

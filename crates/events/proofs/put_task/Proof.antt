@@ -6,8 +6,8 @@ use native.Mathlib.Omega.{arith}
 use lib.ListN.{length, get_or}
 use lib.Seq.{sets}
 use Rattle.model.specs.Numbers.{each, picked}
-use Rattle.events.specs.Chains.{byTask, Nearest, head}
-use Rattle.events.proofs.Order.{picked-skip, picked-room, put_next, own-events}
+use Rattle.events.specs.Chains.{by_task, Nearest, head}
+use Rattle.events.proofs.Order.{picked_skip, picked_room, put_next, own_events_lem}
 use Rattle.events.proofs.put_task.Statement.{statement}
 use Rattle.events.proofs.put_task.Tie as tie
 
@@ -15,23 +15,23 @@ abbrev invariant-loop : tie.invariant-loop
 invariant-loop records chain task order₀ at n next₀ e₀ order next e =
     (e ≤ length records / 4)
     × (n ≡ length records / 4)
-    × (e < length records / 4 → byTask records task e ≡ true)
-    × (order ≡ sets order₀ at (picked (byTask records task) e))
-    × (next ≡ at + length (picked (byTask records task) e))
+    × (e < length records / 4 → by_task records task e ≡ true)
+    × (order ≡ sets order₀ at (picked (by_task records task) e))
+    × (next ≡ at + length (picked (by_task records task) e))
 
 abbrev decreases-loop : tie.decreases-loop
 decreases-loop records chain task order₀ at n next₀ e₀ order next e = n - e
 
 -- the first event of the chain
 ahead : (s : tie.Start invariant-loop decreases-loop)
-    → Nearest (byTask s.args.records.now s.args.task) (length s.args.records.now / 4) 0 (get_or s.args.chain.now (head s.args.task) 0)
+    → Nearest (by_task s.args.records.now s.args.task) (length s.args.records.now / 4) 0 (get_or s.args.chain.now (head s.args.task) 0)
 ahead s = s.requires.0.0.heads s.args.task s.requires.0.2
 
 loop-holds : tie.Need-loop-init invariant-loop decreases-loop
 unfolding picked each
 loop-holds c =
     let r = ahead c.before in
-    let none = picked-skip _ _ 0 _ r in
+    let none = picked_skip _ _ 0 _ r in
     (r.high, refl, r.hit, rw none, rw none (omega arith))
 
 -- the event at hand, and the next of the chain
@@ -45,14 +45,14 @@ module _ (c : tie.In-loop invariant-loop decreases-loop) where
   inside : k.loop.e < length s.args.records.now / 4
   inside = omega arith
 
-  near : Nearest (byTask s.args.records.now s.args.task) (length s.args.records.now / 4) (k.loop.e + 1) (get_or s.args.chain.now k.loop.e 0)
+  near : Nearest (by_task s.args.records.now s.args.task) (length s.args.records.now / 4) (k.loop.e + 1) (get_or s.args.chain.now k.loop.e 0)
   near = s.pre.0.0.links k.loop.e s.args.task (omega arith) inside s.pre.0.2 (k.loop.inv.2 inside)
 
   -- there is room for it
   room : k.loop.next < 1024
   room =
       omega
-      (arith, k.loop.inv.4, s.pre.1, ap length (own-events s.args.records.now s.args.task _ refl), picked-room (byTask s.args.records.now s.args.task) k.loop.e _ inside (k.loop.inv.2 inside))
+      (arith, k.loop.inv.4, s.pre.1, ap length (own_events_lem s.args.records.now s.args.task _ refl), picked_room (by_task s.args.records.now s.args.task) k.loop.e _ inside (k.loop.inv.2 inside))
 
 loop-again : tie.Need-loop-preserved invariant-loop decreases-loop
 loop-again c =
@@ -65,7 +65,7 @@ returns : tie.Need-returns invariant-loop decreases-loop
 returns c =
     let p = c.before.loop in
     let a = c.before.before.before.args in
-    let all = own-events a.records.now a.task p.e (omega arith) in
+    let all = own_events_lem a.records.now a.task p.e (omega arith) in
     (p.invariant.3 ∙ ap (sets a.order.now a.at) all, omega (arith, p.invariant.4, ap length all))
 
 pub put-task-spec : {M : Type 1} → statement M

@@ -2,12 +2,12 @@
 use mathlib.Core.Path.{◌≡◌}
 use Prim.Native.Nat.{◌+◌, ◌*◌, ◌-◌}
 use native.Mathlib.Omega.{arith}
-use Rattle.model.specs.File.{recordBytes}
+use Rattle.model.specs.File.{record_bytes}
 use Rattle.events.proofs.records_of.Statement.{statement}
 use Rattle.events.proofs.records_of.Tie as tie
 
 returns : tie.Need-returns
-unfolding recordBytes
+unfolding record_bytes
 returns c =
     let h = c.before.before.args.trailer in
     let e : h.start + 4 * h.records - h.start ≡ 4 * h.records = omega arith in

@@ -2,16 +2,16 @@
 use native.Mathlib.Omega.{arith}
 use borrow.Author.Rules.{rules}
 use borrow.Author.Tests.{eq-eqb, ne_eqb}
-use Rattle.model.specs.File.{startCount}
+use Rattle.model.specs.File.{start_count}
 use Rattle.events.proofs.start_count.Statement.{statement}
 use Rattle.events.proofs.start_count.Tie as tie
 
 returns : tie.Need-returns
-unfolding startCount
+unfolding start_count
 returns c = (simp (eq-eqb _ _ c.if1.true), omega arith)
 
 returns-2 : tie.Need-returns-2
-unfolding startCount
+unfolding start_count
 returns-2 c = (simp (ne_eqb _ _ c.before.if1.false, c.semaphores.ensures), search rules)
 
 pub start-count-spec : {M : Type 1} → statement M

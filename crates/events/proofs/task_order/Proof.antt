@@ -5,20 +5,20 @@ use native.Mathlib.Omega.{arith}
 use lib.ListN.{length, replicate, length-replicate}
 use lib.Seq.{sets}
 use Rattle.model.specs.Numbers.{each}
-use Rattle.model.specs.File.{eventsOf}
-use Rattle.model.specs.Pairs.{ownEvents}
-use Rattle.events.specs.Chains.{byTask, Chained}
-use Rattle.events.proofs.Laws.{events-length}
-use Rattle.events.proofs.Order.{task-room, task-next, whole-order}
+use Rattle.model.specs.File.{events_of}
+use Rattle.model.specs.Pairs.{own_events}
+use Rattle.events.specs.Chains.{by_task, Chained}
+use Rattle.events.proofs.Laws.{events_length}
+use Rattle.events.proofs.Order.{task_room, task_next, whole_order}
 use Rattle.events.proofs.task_order.Statement.{statement}
 use Rattle.events.proofs.task_order.Tie as tie
 
 abbrev invariant-loop : tie.invariant-loop
 invariant-loop records tasks chain order₀ at₀ task₀ order at task =
     (task ≤ tasks)
-    × Chained (byTask records) (length records / 4) 256 0 chain
-    × (order ≡ sets (replicate 1024 0) 0 (each (ownEvents (eventsOf records)) task))
-    × (at ≡ length (each (ownEvents (eventsOf records)) task))
+    × Chained (by_task records) (length records / 4) 256 0 chain
+    × (order ≡ sets (replicate 1024 0) 0 (each (own_events (events_of records)) task))
+    × (at ≡ length (each (own_events (events_of records)) task))
 
 abbrev decreases-loop : tie.decreases-loop
 decreases-loop records tasks chain order₀ at₀ task₀ order at task = tasks - task
@@ -31,26 +31,26 @@ put-task-requires : tie.Need-put-task-requires invariant-loop decreases-loop
 put-task-requires c κs =
     let k = c.before.before.before.loop in
     let s = c.before.before.before.before.before.before in
-    let l = eventsOf s.args.records.now in (
+    let l = events_of s.args.records.now in (
       (k.invariant.1, s.requires.0, omega (arith, s.requires.1)),
-      omega (arith, k.invariant.3, task-room l s.args.tasks s.requires.2 k.task (omega arith), events-length s.args.records.now, s.requires.0),
+      omega (arith, k.invariant.3, task_room l s.args.tasks s.requires.2 k.task (omega arith), events_length s.args.records.now, s.requires.0),
     )
 
 loop-again : tie.Need-loop-preserved invariant-loop decreases-loop
 loop-again c =
     let k = c.before.before.before.before.loop in
-    let l = eventsOf c.before.before.before.before.before.before.before.args.records.now in
-    let (put, next) = task-next l k.task (replicate 1024 0) _ _ _ _ k.invariant.2 k.invariant.3 c.put-task.ensures.0 c.put-task.ensures.1 in
+    let l = events_of c.before.before.before.before.before.before.before.args.records.now in
+    let (put, next) = task_next l k.task (replicate 1024 0) _ _ _ _ k.invariant.2 k.invariant.3 c.put-task.ensures.0 c.put-task.ensures.1 in
     (omega arith, k.invariant.1, put, next)
 
 returns : tie.Need-returns invariant-loop decreases-loop
 returns c =
     let k = c.before.loop in
     let a = c.before.before.before.before in
-    let n = events-length a.args.records.now in
+    let n = events_length a.args.records.now in
     let t : k.task ≡ a.args.tasks = omega arith in
     rw (sym n)
-    (whole-order (eventsOf a.args.records.now) a.args.tasks a.requires.2 (replicate 1024 0) k.order (omega (arith, n, a.requires.0, length-replicate {A = ℕ} 1024 0)) (rw t at k.invariant.2))
+    (whole_order (events_of a.args.records.now) a.args.tasks a.requires.2 (replicate 1024 0) k.order (omega (arith, n, a.requires.0, length-replicate {A = ℕ} 1024 0)) (rw t at k.invariant.2))
 
 pub task-order-spec : {M : Type 1} → statement M
 task-order-spec =

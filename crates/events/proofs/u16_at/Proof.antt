@@ -2,7 +2,7 @@
 use mathlib.Core.Path.{refl}
 use Prim.Native.Nat.{◌+◌}
 use native.Mathlib.Omega.{arith}
-use Rattle.model.specs.File.{u16At}
+use Rattle.model.specs.File.{u16_at}
 use Rattle.events.proofs.u16_at.Statement.{statement}
 use Rattle.events.proofs.u16_at.Tie as tie
 
@@ -19,7 +19,7 @@ add-result-2 : tie.Need-overflow-add-result-2
 add-result-2 c = omega (arith, c.before.shared-slice-known.given c.before.before.args.i, c.shared-slice-known2.given (c.before.before.args.i + 1))
 
 returns : tie.Need-returns
-unfolding u16At
+unfolding u16_at
 returns c = refl
 
 pub u16-at-spec : {M : Type 1} → statement M

@@ -1,6 +1,6 @@
 -- `fennrolka::analysis_numbers` meets its contract: the numbers of the answer, or those of its refusal. Assumes nothing.
 use borrow.Author.Rules.{rules}
-use Rattle.fennrolka.proofs.Telling.{done-told, not-done-told}
+use Rattle.fennrolka.proofs.Telling.{done_told, not_done_told}
 use Rattle.fennrolka.proofs.analysis_numbers.Statement.{statement}
 use Rattle.fennrolka.proofs.analysis_numbers.Tie as tie
 
@@ -14,5 +14,5 @@ analysis-numbers-spec =
     (λ c. search rules)
     (λ c κs. search rules)
     (λ c κs. search rules)
-    (λ c. done-told _ _ _ _ c.before.found.given.1)
-    (λ c. not-done-told _ _ _ _ c.before.before.before.found2.given.1 c.before.pairs.ensures c.«record».ensures))
+    (λ c. done_told _ _ _ _ c.before.found.given.1)
+    (λ c. not_done_told _ _ _ _ c.before.before.before.found2.given.1 c.before.pairs.ensures c.«record».ensures))

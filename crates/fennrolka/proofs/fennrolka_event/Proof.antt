@@ -1,6 +1,6 @@
 -- `fennrolka::fennrolka_event` meets its contract: code and numbers are those of what looking answers. Assumes nothing.
 use borrow.Author.Rules.{rules}
-use Rattle.fennrolka.specs.Told.{codeOfLooked, toldOfLooked}
+use Rattle.fennrolka.specs.Told.{code_of_looked, told_of_looked}
 use Rattle.fennrolka.proofs.Telling.{answered}
 use Rattle.fennrolka.proofs.fennrolka_event.Statement.{statement}
 use Rattle.fennrolka.proofs.fennrolka_event.Tie as tie
@@ -8,7 +8,7 @@ use Rattle.fennrolka.proofs.fennrolka_event.Tie as tie
 returns : tie.Need-returns
 returns c =
     let n = c.before.before.before.before.before.before in
-    answered codeOfLooked toldOfLooked _ n.before.look.ensures c.looked-code.ensures n.looked-numbers.ensures c.before.before.before.tell.ensures
+    answered code_of_looked told_of_looked _ n.before.look.ensures c.looked-code.ensures n.looked-numbers.ensures c.before.before.before.tell.ensures
 
 pub fennrolka-event-spec : {M : Type 1} → statement M
 fennrolka-event-spec =

@@ -5,8 +5,8 @@ use mathlib.Core.Path.{◌≡◌, sym, ◌∙◌}
 use Rattle.model.specs.declared.Reading.{Reading}
 use Rattle.model.specs.Reading.{reading_of}
 use Rattle.recording.proofs.Files.{within}
-use Rattle.fennrolka.specs.Looking.{lookedOf}
-use Rattle.fennrolka.proofs.Looking.{of-accepted}
+use Rattle.fennrolka.specs.Looking.{looked_of}
+use Rattle.fennrolka.proofs.Looking.{of_accepted}
 use Rattle.fennrolka.proofs.look.Statement.{statement}
 use Rattle.fennrolka.proofs.look.Tie as tie
 
@@ -18,10 +18,10 @@ records-of-requires : tie.Need-records-of-requires
 records-of-requires c κs = omega (arith, within _ _ (accepted c.before))
 
 returns : tie.Need-returns
-returns c = c.look_in.ensures ∙ of-accepted _ _ (accepted c.before.before.before) _ c.before.records-of.ensures _
+returns c = c.look_in.ensures ∙ of_accepted _ _ (accepted c.before.before.before) _ c.before.records-of.ensures _
 
 returns-2 : tie.Need-returns-2
-unfolding lookedOf
+unfolding looked_of
 returns-2 c = rw (sym c.before.before.before.read.ensures ∙ c.before.r.given.1)
 
 pub look_spec : {M : Type 1} → statement M

@@ -5,7 +5,7 @@ use native.Mathlib.Omega.{arith}
 use lib.ListN.{length, take}
 use lib.Seq.{take_all}
 use Rattle.model.specs.Report.{laid}
-use Rattle.fennrolka.proofs.Laying.{none-laid, next-laid}
+use Rattle.fennrolka.proofs.Laying.{none_laid, next_laid}
 use Rattle.fennrolka.proofs.tell.Statement.{statement}
 use Rattle.fennrolka.proofs.tell.Tie as tie
 
@@ -18,7 +18,7 @@ decreases-loop told₀ numbers i₀ told i = length numbers - i
 loop-again : tie.Need-loop-preserved invariant-loop decreases-loop
 loop-again c =
     let at-loop = c.before.before.before.before.before.before in
-    (omega arith, omega arith, next-laid _ _ _ c.before.before.before.before.before.loop-test.true at-loop.loop.invariant.2 c.before.before.put.ensures)
+    (omega arith, omega arith, next_laid _ _ _ c.before.before.before.before.before.loop-test.true at-loop.loop.invariant.2 c.before.before.put.ensures)
 
 returns : tie.Need-returns invariant-loop decreases-loop
 returns c = rw (take_all _ _ c.loop-test.false) at c.before.loop.invariant.2
@@ -29,7 +29,7 @@ tell-spec =
     (tie.spec
     invariant-loop
     decreases-loop
-    (λ c. (omega arith, refl, none-laid _))
+    (λ c. (omega arith, refl, none_laid _))
     (λ c. omega arith)
     (λ c. omega arith)
     (λ c κs. tt)

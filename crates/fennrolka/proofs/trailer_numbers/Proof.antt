@@ -1,6 +1,6 @@
 -- `fennrolka::trailer_numbers` meets its contract: it widens each number of the trailer. Assumes nothing.
 use borrow.Author.Rules.{rules}
-use Rattle.fennrolka.proofs.Telling.{trailer-told}
+use Rattle.fennrolka.proofs.Telling.{trailer_told}
 use Rattle.fennrolka.proofs.trailer_numbers.Statement.{statement}
 use Rattle.fennrolka.proofs.trailer_numbers.Tie as tie
 
@@ -15,4 +15,4 @@ trailer-numbers-spec =
     (λ c. search rules)
     (λ c. search rules)
     (λ c. search rules)
-    (λ c. let f = c.before.before.before in trailer-told _ _ _ f.before.semaphores.ensures f.flags.ensures))
+    (λ c. let f = c.before.before.before in trailer_told _ _ _ f.before.semaphores.ensures f.flags.ensures))

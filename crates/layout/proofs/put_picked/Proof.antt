@@ -3,8 +3,8 @@ use Prim.Native.Nat.{◌*◌}
 use native.Mathlib.Omega.{arith}
 use borrow.Author.Rules.{rules}
 use lib.ListN.{length}
-use Rattle.model.specs.Writing.{recordsIn}
-use Rattle.model.proofs.Picking.{in-length}
+use Rattle.model.specs.Writing.{records_in}
+use Rattle.model.proofs.Picking.{in_length}
 use Rattle.layout.proofs.Copies.{filed}
 use Rattle.layout.proofs.put_picked.Statement.{statement}
 use Rattle.layout.proofs.put_picked.Tie as tie
@@ -16,7 +16,7 @@ returns c =
     let a = copy.before.before.before.before.before.before.args in
     let s = a.records.now in
     let o = a.order.now in
-    filed (recordsIn s o) a.out.now copy.put-records.new.1.1.0 (4 * length o) (in-length s o) copy.put-records.ensures
+    filed (records_in s o) a.out.now copy.put-records.new.1.1.0 (4 * length o) (in_length s o) copy.put-records.ensures
     a.counts a.levels.now _ end.put-end.ensures
 
 pub put-picked-spec : {M : Type 1} → statement M

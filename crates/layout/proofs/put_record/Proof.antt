@@ -3,7 +3,7 @@ use mathlib.Core.Path.{ap}
 use native.Mathlib.Omega.{arith}
 use borrow.Author.Rules.{rules}
 use lib.ListN.{length}
-use Rattle.layout.proofs.Copies.{as-part}
+use Rattle.layout.proofs.Copies.{as_part}
 use Rattle.layout.proofs.put_record.Statement.{statement}
 use Rattle.layout.proofs.put_record.Tie as tie
 
@@ -14,13 +14,13 @@ part-copy-at-end c = omega arith
 copy-at-requires : tie.Need-copy-at-requires
 copy-at-requires c κs =
     let a = c.before.before.before.before.args in
-    omega (arith, ap length (as-part a.records.now a.e (omega arith)))
+    omega (arith, ap length (as_part a.records.now a.e (omega arith)))
 
 returns : tie.Need-returns
 returns c =
     let copy = c.before.before in
     let a = copy.before.before.before.before.before.args in
-    rw (as-part a.records.now a.e (omega arith)) at copy.copy_at.ensures
+    rw (as_part a.records.now a.e (omega arith)) at copy.copy_at.ensures
 
 pub put-record-spec : {M : Type 1} → statement M
 put-record-spec =

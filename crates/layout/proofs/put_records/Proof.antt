@@ -6,21 +6,21 @@ use Prim.Native.Nat.{◌*◌, ◌≤◌, ◌-◌}
 use native.Mathlib.Omega.{arith}
 use lib.ListN.{length, take, drop}
 use lib.Seq.{take-length}
-use Rattle.model.specs.Writing.{recordsIn}
-use Rattle.layout.proofs.Copies.{none-picked, next-picked}
+use Rattle.model.specs.Writing.{records_in}
+use Rattle.layout.proofs.Copies.{none_picked, next_picked}
 use Rattle.layout.proofs.put_records.Statement.{statement}
 use Rattle.layout.proofs.put_records.Tie as tie
 
 abbrev invariant-loop : tie.invariant-loop
 invariant-loop records order out₀ i₀ out i =
-    (i ≤ length order) × (length out ≡ length out₀) × (out ≡ recordsIn records (take i order) ++ drop (4 * i) out₀)
+    (i ≤ length order) × (length out ≡ length out₀) × (out ≡ records_in records (take i order) ++ drop (4 * i) out₀)
 
 abbrev decreases-loop : tie.decreases-loop
 decreases-loop records order out₀ i₀ out i = length order - i
 
 loop-holds : tie.Need-loop-init invariant-loop decreases-loop
 loop-holds c =
-    let a = c.before.before.before.args in (omega arith, refl, none-picked a.records.now a.out.now)
+    let a = c.before.before.before.args in (omega arith, refl, none_picked a.records.now a.out.now)
 
 loop-again : tie.Need-loop-preserved invariant-loop decreases-loop
 loop-again c =
@@ -29,7 +29,7 @@ loop-again c =
     let k = turn.loop in (
       omega arith,
       omega arith,
-      next-picked a.records.now a.order.now a.out.now k.out _ k.i (omega arith) k.invariant.2 c.before.before.put_record.ensures,
+      next_picked a.records.now a.order.now a.out.now k.out _ k.i (omega arith) k.invariant.2 c.before.before.put_record.ensures,
     )
 
 -- the order names a record

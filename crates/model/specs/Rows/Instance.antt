@@ -4,13 +4,13 @@ use Rattle.std.specs.Prelude.{ℕ, ◌≡◌, true}
 use mathlib.Core.List.{Memᴰ}
 use Rattle.model.specs.declared.Reading.{Reading}
 use Rattle.model.specs.Recording.{event}
-use Rattle.model.specs.File.{trailerOf, recordingOf}
+use Rattle.model.specs.File.{trailer_of, recording_of}
 use Rattle.model.specs.Reading.{reading_of}
 use Rattle.model.specs.Pairs.{conflict, listed, OnList}
 use Rattle.model.specs.Rows.Starred.{G}
 
 pub record Instance : Type 0 where
-  pub accepted : reading_of G ≡ Reading.Accepted (trailerOf G)
-  pub listed-sure : Memᴰ (record { first = 3; second = 2; mark = 1 }) (listed (recordingOf G) 37)
-  pub conflicting : conflict (event (recordingOf G) 0) (event (recordingOf G) 2) ≡ true
-  pub off_list : (m : ℕ) → ¬ (OnList (recordingOf G) 0 2 37 m)
+  pub accepted : reading_of G ≡ Reading.Accepted (trailer_of G)
+  pub listed_sure : Memᴰ (record { first = 3; second = 2; mark = 1 }) (listed (recording_of G) 37)
+  pub conflicting : conflict (event (recording_of G) 0) (event (recording_of G) 2) ≡ true
+  pub off_list : (m : ℕ) → ¬ (OnList (recording_of G) 0 2 37 m)

@@ -3,9 +3,9 @@
 -- Proved as `parts` in proofs/Rows.antt. Assumes nothing.
 use Rattle.std.specs.Prelude.{ℕ, ◌≡◌, List, [], ◌∷◌, ◌++◌}
 use Rattle.model.specs.declared.Item.{Item}
-use Rattle.model.specs.File.{trailerOf}
-use Rattle.model.specs.Reading.{preambleOf, recordsOf, startsOf, postsOf}
-use Rattle.model.specs.Walking.{stepAt}
+use Rattle.model.specs.File.{trailer_of}
+use Rattle.model.specs.Reading.{preamble_of, records_of, starts_of, posts_of}
+use Rattle.model.specs.Walking.{step_at}
 use Rattle.model.specs.Rows.Starred.{W, P, Accepts, Refuses}
 use Rattle.model.specs.Rows.Faults.{trailer}
 use Rattle.model.specs.Rows.Flagged.{kernel}
@@ -33,29 +33,29 @@ abbrev pub ragged : List ℕ
 ragged = 1 ∷ 2 ∷ 3 ∷ 4 ∷ 5 ∷ 6 ∷ 7 ∷ 8 ∷ 9 ∷ 10 ∷ []
 
 pub record Parts : Type 0 where
-  pub fields : trailerOf counting ≡ record { start = 67305985; records = 134678021; counts = record { tasks = 2569; semaphores = 3083; cells = 3597; edition = 4111 } }
+  pub fields : trailer_of counting ≡ record { start = 67305985; records = 134678021; counts = record { tasks = 2569; semaphores = 3083; cells = 3597; edition = 4111 } }
   pub kept_read : Accepts kept
-  pub kept-preamble : preambleOf kept ≡ 7 ∷ 8 ∷ 9 ∷ []
-  pub kept-records : recordsOf kept ≡ W 0
-  pub kept-starts : startsOf kept ≡ []
-  pub kept-posts : postsOf kept ≡ []
-  pub stocked-read : Accepts stocked
-  pub stocked-preamble : preambleOf stocked ≡ 7 ∷ 8 ∷ 9 ∷ []
-  pub stocked-records : recordsOf stocked ≡ W 0
-  pub stocked-starts : startsOf stocked ≡ 5 ∷ 6 ∷ []
-  pub stocked-posts : postsOf stocked ≡ []
-  pub flagged-read : Accepts flagged
-  pub flagged-preamble : preambleOf flagged ≡ 7 ∷ 8 ∷ 9 ∷ []
-  pub flagged-records : recordsOf flagged ≡ W 0
-  pub flagged-starts : startsOf flagged ≡ 5 ∷ 6 ∷ []
-  pub flagged-posts : postsOf flagged ≡ 3 ∷ 4 ∷ []
-  pub broken-read : Refuses broken 8 0
-  pub broken-preamble : preambleOf broken ≡ []
-  pub broken-records : recordsOf broken ≡ []
-  pub broken-starts : startsOf (5 ∷ trailer 0 0 0 1 0 2) ≡ []
-  pub broken-posts : postsOf (kernel 0 1 1 0 (5 ∷ []) (3 ∷ []) []) ≡ []
+  pub kept_preamble : preamble_of kept ≡ 7 ∷ 8 ∷ 9 ∷ []
+  pub kept_records : records_of kept ≡ W 0
+  pub kept_starts : starts_of kept ≡ []
+  pub kept_posts : posts_of kept ≡ []
+  pub stocked_read : Accepts stocked
+  pub stocked_preamble : preamble_of stocked ≡ 7 ∷ 8 ∷ 9 ∷ []
+  pub stocked_records : records_of stocked ≡ W 0
+  pub stocked_starts : starts_of stocked ≡ 5 ∷ 6 ∷ []
+  pub stocked_posts : posts_of stocked ≡ []
+  pub flagged_read : Accepts flagged
+  pub flagged_preamble : preamble_of flagged ≡ 7 ∷ 8 ∷ 9 ∷ []
+  pub flagged_records : records_of flagged ≡ W 0
+  pub flagged_starts : starts_of flagged ≡ 5 ∷ 6 ∷ []
+  pub flagged_posts : posts_of flagged ≡ 3 ∷ 4 ∷ []
+  pub broken_read : Refuses broken 8 0
+  pub broken_preamble : preamble_of broken ≡ []
+  pub broken_records : records_of broken ≡ []
+  pub broken_starts : starts_of (5 ∷ trailer 0 0 0 1 0 2) ≡ []
+  pub broken_posts : posts_of (kernel 0 1 1 0 (5 ∷ []) (3 ∷ []) []) ≡ []
   -- a step before the end, the last one, at the end, and past it
-  pub step-0 : stepAt ragged 0 ≡ record { item = Item.Event (record { task = 1; kind = 2; object = 1027 }); next = 1 }
-  pub step-1 : stepAt ragged 1 ≡ record { item = Item.Event (record { task = 5; kind = 6; object = 2055 }); next = 2 }
-  pub step-2 : stepAt ragged 2 ≡ record { item = Item.End; next = 2 }
-  pub step-3 : stepAt ragged 3 ≡ record { item = Item.End; next = 3 }
+  pub step_0 : step_at ragged 0 ≡ record { item = Item.Event (record { task = 1; kind = 2; object = 1027 }); next = 1 }
+  pub step_1 : step_at ragged 1 ≡ record { item = Item.Event (record { task = 5; kind = 6; object = 2055 }); next = 2 }
+  pub step_2 : step_at ragged 2 ≡ record { item = Item.End; next = 2 }
+  pub step_3 : step_at ragged 3 ≡ record { item = Item.End; next = 3 }

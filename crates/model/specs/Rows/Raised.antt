@@ -1,9 +1,9 @@
 -- Passes made and vectors of small recordings (document 01, Passes and safe vectors and The recorded run).
 -- Proved as `raised` in proofs/Rows.antt. Assumes nothing.
 use Rattle.std.specs.Prelude.{ℕ, ◌≡◌, Bool, true, false, List, [], ◌∷◌, ◌++◌}
-use Rattle.model.specs.File.{recordingOf}
+use Rattle.model.specs.File.{recording_of}
 use Rattle.model.specs.Vectors.{Vectors}
-use Rattle.model.specs.Passes.{safeVectors, passesMade, isSettled}
+use Rattle.model.specs.Passes.{safe_vectors, passes_made, is_settled}
 use Rattle.model.specs.Recorded.{recorded}
 use Rattle.model.specs.Rows.Starred.{of, S, P, Fork, Join, file, D, G}
 
@@ -17,10 +17,10 @@ three a b c = a ∷ b ∷ c ∷ []
 -- with this budget, so many passes are made, settled or not, and these are the safe vectors
 abbrev pub Raises : List ℕ → ℕ → ℕ → Bool → Vectors → Type 0
 Raises f budget n s X =
-    (passesMade (recordingOf f) budget ≡ n) × (isSettled (recordingOf f) budget ≡ s) × (safeVectors (recordingOf f) budget ≡ X)
+    (passes_made (recording_of f) budget ≡ n) × (is_settled (recording_of f) budget ≡ s) × (safe_vectors (recording_of f) budget ≡ X)
 
 abbrev pub Records : List ℕ → Vectors → Type 0
-Records f R = recorded (recordingOf f) ≡ R
+Records f R = recorded (recording_of f) ≡ R
 
 -- a join of a task that has no record follows its fork
 abbrev pub idle : List ℕ
@@ -43,18 +43,18 @@ abbrev pub slow : List ℕ
 slow = file 3 1 0 (S 0 ++ S 0 ++ P 1 ++ P 2 ++ S 1)
 
 pub record Raised : Type 0 where
-  pub waited-twice : Raises D 37 2 true (three 1 0 0 ∷ three 2 0 0 ∷ three 0 1 0 ∷ three 0 0 1 ∷ three 2 1 2 ∷ three 2 1 3 ∷ [])
-  pub waited-twice-recorded : Records D (three 1 0 0 ∷ three 2 0 0 ∷ three 0 1 0 ∷ three 2 0 1 ∷ three 2 1 2 ∷ three 2 1 3 ∷ [])
-  pub forked-0 : Raises G 0 0 false (two 1 0 ∷ two 2 0 ∷ two 0 1 ∷ two 3 0 ∷ two 4 0 ∷ two 5 0 ∷ [])
+  pub waited_twice : Raises D 37 2 true (three 1 0 0 ∷ three 2 0 0 ∷ three 0 1 0 ∷ three 0 0 1 ∷ three 2 1 2 ∷ three 2 1 3 ∷ [])
+  pub waited_twice_recorded : Records D (three 1 0 0 ∷ three 2 0 0 ∷ three 0 1 0 ∷ three 2 0 1 ∷ three 2 1 2 ∷ three 2 1 3 ∷ [])
+  pub forked_0 : Raises G 0 0 false (two 1 0 ∷ two 2 0 ∷ two 0 1 ∷ two 3 0 ∷ two 4 0 ∷ two 5 0 ∷ [])
   pub forked : Raises G 37 2 true (two 1 0 ∷ two 2 0 ∷ two 2 1 ∷ two 3 0 ∷ two 4 1 ∷ two 5 1 ∷ [])
-  pub forked-recorded : Records G (two 1 0 ∷ two 2 0 ∷ two 2 1 ∷ two 3 0 ∷ two 4 1 ∷ two 5 1 ∷ [])
-  pub idle-joined : Raises idle 5 2 true (three 1 0 0 ∷ three 1 1 0 ∷ [])
-  pub idle-joined-recorded : Records idle (three 1 0 0 ∷ three 1 1 0 ∷ [])
-  pub nothing-shared : Raises apart 5 1 true (three 1 0 0 ∷ three 0 0 1 ∷ [])
-  pub two-semaphores : Raises crossed 17 2 true (three 1 0 0 ∷ three 0 1 0 ∷ three 0 1 1 ∷ three 1 1 2 ∷ [])
-  pub two-semaphores-recorded : Records crossed (three 1 0 0 ∷ three 0 1 0 ∷ three 0 1 1 ∷ three 1 1 2 ∷ [])
-  pub handed-on : Raises handed 1 1 false (three 0 0 1 ∷ three 0 0 2 ∷ three 1 0 1 ∷ three 2 0 1 ∷ three 2 1 2 ∷ [])
-  pub slow-1 : Raises slow 1 1 false (three 1 0 0 ∷ three 2 0 0 ∷ three 1 1 0 ∷ three 0 0 1 ∷ three 1 2 0 ∷ [])
-  pub slow-2 : Raises slow 2 2 false (three 1 0 0 ∷ three 2 0 0 ∷ three 1 1 0 ∷ three 1 0 1 ∷ three 1 2 0 ∷ [])
-  pub slow-settled : Raises slow 26 3 true (three 1 0 0 ∷ three 2 0 0 ∷ three 1 1 0 ∷ three 1 0 1 ∷ three 1 2 0 ∷ [])
-  pub slow-recorded : Records slow (three 1 0 0 ∷ three 2 0 0 ∷ three 1 1 0 ∷ three 2 0 1 ∷ three 1 2 0 ∷ [])
+  pub forked_recorded : Records G (two 1 0 ∷ two 2 0 ∷ two 2 1 ∷ two 3 0 ∷ two 4 1 ∷ two 5 1 ∷ [])
+  pub idle_joined : Raises idle 5 2 true (three 1 0 0 ∷ three 1 1 0 ∷ [])
+  pub idle_joined_recorded : Records idle (three 1 0 0 ∷ three 1 1 0 ∷ [])
+  pub nothing_shared : Raises apart 5 1 true (three 1 0 0 ∷ three 0 0 1 ∷ [])
+  pub two_semaphores : Raises crossed 17 2 true (three 1 0 0 ∷ three 0 1 0 ∷ three 0 1 1 ∷ three 1 1 2 ∷ [])
+  pub two_semaphores_recorded : Records crossed (three 1 0 0 ∷ three 0 1 0 ∷ three 0 1 1 ∷ three 1 1 2 ∷ [])
+  pub handed_on : Raises handed 1 1 false (three 0 0 1 ∷ three 0 0 2 ∷ three 1 0 1 ∷ three 2 0 1 ∷ three 2 1 2 ∷ [])
+  pub slow_1 : Raises slow 1 1 false (three 1 0 0 ∷ three 2 0 0 ∷ three 1 1 0 ∷ three 0 0 1 ∷ three 1 2 0 ∷ [])
+  pub slow_2 : Raises slow 2 2 false (three 1 0 0 ∷ three 2 0 0 ∷ three 1 1 0 ∷ three 1 0 1 ∷ three 1 2 0 ∷ [])
+  pub slow_settled : Raises slow 26 3 true (three 1 0 0 ∷ three 2 0 0 ∷ three 1 1 0 ∷ three 1 0 1 ∷ three 1 2 0 ∷ [])
+  pub slow_recorded : Records slow (three 1 0 0 ∷ three 2 0 0 ∷ three 1 1 0 ∷ three 2 0 1 ∷ three 1 2 0 ∷ [])

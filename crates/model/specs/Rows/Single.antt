@@ -21,24 +21,24 @@ cell l = kernel 3 0 0 1 [] [] l
 
 pub record Single : Type 0 where
   -- two such accesses do not conflict: nothing orders the two, and they are off the list
-  pub both-write : Analyses (cell (SW 0 ++ SW 1)) 5 1 true []
+  pub both_write : Analyses (cell (SW 0 ++ SW 1)) 5 1 true []
   pub one_writes : Analyses (cell (SW 0 ++ SR 1)) 5 1 true []
   -- against a plain access they count as read and write
-  pub write-plain-read : Analyses (cell (SW 0 ++ R 1)) 5 1 true (0 ∷ 1 ∷ 1 ∷ [])
-  pub write-plain-write : Analyses (cell (SW 0 ++ W 1)) 5 1 true (0 ∷ 1 ∷ 1 ∷ [])
-  pub read-plain-write : Analyses (cell (SR 0 ++ W 1)) 5 1 true (0 ∷ 1 ∷ 1 ∷ [])
-  pub read-plain-read : Analyses (cell (SR 0 ++ R 1)) 5 1 true []
-  pub among-three : Analyses (cell (SW 0 ++ SW 1 ++ W 2)) 10 1 true (0 ∷ 2 ∷ 1 ∷ 1 ∷ 2 ∷ 1 ∷ [])
+  pub write_plain_read : Analyses (cell (SW 0 ++ R 1)) 5 1 true (0 ∷ 1 ∷ 1 ∷ [])
+  pub write_plain_write : Analyses (cell (SW 0 ++ W 1)) 5 1 true (0 ∷ 1 ∷ 1 ∷ [])
+  pub read_plain_write : Analyses (cell (SR 0 ++ W 1)) 5 1 true (0 ∷ 1 ∷ 1 ∷ [])
+  pub read_plain_read : Analyses (cell (SR 0 ++ R 1)) 5 1 true []
+  pub among_three : Analyses (cell (SW 0 ++ SW 1 ++ W 2)) 10 1 true (0 ∷ 2 ∷ 1 ∷ 1 ∷ 2 ∷ 1 ∷ [])
   -- the kinds 9 and 10 are of edition 3, which has no further one
   pub kinds : Accepts (cell (SR 0 ++ SW 0))
-  pub kind-9-edition-1 : Refuses (file 1 1 1 (SR 0)) 5 0
-  pub kind-10-edition-1 : Refuses (file 1 1 1 (SW 0)) 5 0
-  pub kind-9-edition-2 : Refuses (pool 1 1 1 (1 ∷ []) (SR 0)) 5 0
-  pub kind-10-edition-2 : Refuses (pool 1 1 1 (1 ∷ []) (SW 0)) 5 0
-  pub kind-11 : Refuses (cell (of 11 0 0)) 5 0
-  pub kind-10-written : written_of (SW 0) (counted 1 0 0 1) [] [] (lent 20) ≡ Written.Length 20
-  pub kind-10-edition-2-written : RefusedAs Written.Refused (written_of (SW 0) (edited 2) (lent 2) [] (lent 22)) 5 0 0
-  pub kind-11-written : RefusedAs Written.Refused (written_of (of 11 0 0) (counted 1 0 0 1) [] [] (lent 20)) 5 0 0
+  pub kind_9_edition_1 : Refuses (file 1 1 1 (SR 0)) 5 0
+  pub kind_10_edition_1 : Refuses (file 1 1 1 (SW 0)) 5 0
+  pub kind_9_edition_2 : Refuses (pool 1 1 1 (1 ∷ []) (SR 0)) 5 0
+  pub kind_10_edition_2 : Refuses (pool 1 1 1 (1 ∷ []) (SW 0)) 5 0
+  pub kind_11 : Refuses (cell (of 11 0 0)) 5 0
+  pub kind_10_written : written_of (SW 0) (counted 1 0 0 1) [] [] (lent 20) ≡ Written.Length 20
+  pub kind_10_edition_2_written : RefusedAs Written.Refused (written_of (SW 0) (edited 2) (lent 2) [] (lent 22)) 5 0 0
+  pub kind_11_written : RefusedAs Written.Refused (written_of (of 11 0 0) (counted 1 0 0 1) [] [] (lent 20)) 5 0 0
   -- their object is a cell
-  pub cell-1-read : Refuses (cell (of 9 0 1)) 6 0
-  pub cell-1-written : Refuses (cell (of 10 0 1)) 6 0
+  pub cell_1_read : Refuses (cell (of 9 0 1)) 6 0
+  pub cell_1_written : Refuses (cell (of 10 0 1)) 6 0

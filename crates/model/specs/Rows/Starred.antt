@@ -5,11 +5,11 @@ use Rattle.std.specs.Prelude.{ℕ, ◌/◌, ◌≡◌, Bool, true, false, List, 
 use Rattle.model.specs.declared.Refusal.{Refusal}
 use Rattle.model.specs.declared.Reading.{Reading}
 use Rattle.model.specs.declared.Analysis.{Analysis}
-use Rattle.model.specs.Refusals.{number_of, recordOf, pairsOf, differingTask, differingPosition}
-use Rattle.model.specs.File.{trailerOf}
+use Rattle.model.specs.Refusals.{number_of, record_of, pairs_of, differing_task, differing_position}
+use Rattle.model.specs.File.{trailer_of}
 use Rattle.model.specs.Reading.{reading_of}
-use Rattle.model.specs.Analysing.{analysisOf, listAfterAnalysing}
-use Rattle.model.specs.Writing.{fileOf}
+use Rattle.model.specs.Analysing.{analysis_of, list_after_analysing}
+use Rattle.model.specs.Writing.{file_of}
 
 -- ---- recordings as record bytes
 
@@ -38,7 +38,7 @@ Join t x = of 4 t x
 
 -- a file of edition 1 with t tasks, s semaphores and c cells
 abbrev pub file : ℕ → ℕ → ℕ → List ℕ → List ℕ
-file t s c l = fileOf l (record { tasks = t; semaphores = s; cells = c; edition = 1 }) []
+file t s c l = file_of l (record { tasks = t; semaphores = s; cells = c; edition = 1 }) []
 
 abbrev pub A : List ℕ
 A = file 2 1 1 (W 0 ++ S 0 ++ P 1 ++ R 1)
@@ -84,23 +84,23 @@ room l = replicate (length l) 0
 
 -- analysing f with budget b lists just these entries
 abbrev pub Lists : List ℕ → ℕ → List ℕ → Type 0
-Lists f b l = listAfterAnalysing f b work (room l) ≡ l
+Lists f b l = list_after_analysing f b work (room l) ≡ l
 
 -- and makes so many passes, settled or not
 abbrev pub Analyses : List ℕ → ℕ → ℕ → Bool → List ℕ → Type 0
-Analyses f b n s l = (analysisOf f b work (room l) ≡ Analysis.Done n s (length l / 3)) × Lists f b l
+Analyses f b n s l = (analysis_of f b work (room l) ≡ Analysis.Done n s (length l / 3)) × Lists f b l
 
 abbrev pub Accepts : List ℕ → Type 0
-Accepts f = reading_of f ≡ Reading.Accepted (trailerOf f)
+Accepts f = reading_of f ≡ Reading.Accepted (trailer_of f)
 
 -- an answer is a refusal with this number, this record and these pairs needed
 abbrev pub RefusedAs : {X : Type 0} → (Refusal → X) → X → ℕ → ℕ → ℕ → Type 0
-RefusedAs refused answer n e p = (r : Refusal) × (answer ≡ refused r) × (number_of r ≡ n) × (recordOf r ≡ e) × (pairsOf r ≡ p)
+RefusedAs refused answer n e p = (r : Refusal) × (answer ≡ refused r) × (number_of r ≡ n) × (record_of r ≡ e) × (pairs_of r ≡ p)
 
 -- it is a refusal with this number, which is no record's fault and needs no pairs, and no task differs
 abbrev pub RefusedAlone : {X : Type 0} → (Refusal → X) → X → ℕ → Type 0
 RefusedAlone refused answer n =
-    (r : Refusal) × (answer ≡ refused r) × (number_of r ≡ n) × (recordOf r ≡ 0) × (pairsOf r ≡ 0) × (differingTask r ≡ 0) × (differingPosition r ≡ 0)
+    (r : Refusal) × (answer ≡ refused r) × (number_of r ≡ n) × (record_of r ≡ 0) × (pairs_of r ≡ 0) × (differing_task r ≡ 0) × (differing_position r ≡ 0)
 
 -- reading refuses f by this number at this record
 abbrev pub Refuses : List ℕ → ℕ → ℕ → Type 0
@@ -115,8 +115,8 @@ pub record Starred : Type 0 where
   pub d : Analyses D 37 2 true []
   pub e : Lists E 37 (0 ∷ 5 ∷ 1 ∷ [])
   pub f : Analyses F 26 2 true []
-  pub g-0 : Analyses G 0 0 false (0 ∷ 2 ∷ 0 ∷ 3 ∷ 2 ∷ 1 ∷ 5 ∷ 2 ∷ 0 ∷ [])
-  pub g-printed : Analyses G 37 2 true (3 ∷ 2 ∷ 1 ∷ [])
+  pub g_0 : Analyses G 0 0 false (0 ∷ 2 ∷ 0 ∷ 3 ∷ 2 ∷ 1 ∷ 5 ∷ 2 ∷ 0 ∷ [])
+  pub g_printed : Analyses G 37 2 true (3 ∷ 2 ∷ 1 ∷ [])
   pub h : Accepts H
   pub i : Refuses I 7 0
   pub j : Refuses J 8 0
@@ -132,16 +132,16 @@ abbrev pub garbage : List ℕ
 garbage = 0 ∷ 0 ∷ 0 ∷ 0 ∷ 255 ∷ 255 ∷ 255 ∷ 255 ∷ 1 ∷ 0 ∷ 0 ∷ 0 ∷ 0 ∷ 0 ∷ 1 ∷ 0 ∷ []
 
 pub record Edges : Type 0 where
-  pub bytes-15 : Refuses (replicate 15 0) 1 0
-  pub bytes-16 : Refuses (replicate 16 0) 2 0
+  pub bytes_15 : Refuses (replicate 15 0) 1 0
+  pub bytes_16 : Refuses (replicate 16 0) 2 0
   pub no_record : Accepts (file 1 0 0 [])
-  pub no-task : Refuses (file 0 0 0 []) 4 0
-  pub tasks-16 : Accepts (file 16 64 1024 [])
-  pub tasks-17 : Refuses (file 17 64 1024 []) 4 0
-  pub semaphores-65 : Refuses (file 16 65 1024 []) 4 0
-  pub cells-1025 : Refuses (file 16 64 1025 []) 4 0
+  pub no_task : Refuses (file 0 0 0 []) 4 0
+  pub tasks_16 : Accepts (file 16 64 1024 [])
+  pub tasks_17 : Refuses (file 17 64 1024 []) 4 0
+  pub semaphores_65 : Refuses (file 16 65 1024 []) 4 0
+  pub cells_1025 : Refuses (file 16 64 1025 []) 4 0
   -- records of kind 0, so 1,024 of them are refused by 5, and one more by 4
-  pub records-1024 : Refuses (file 1 0 0 (replicate 4096 0)) 5 0
-  pub records-1025 : Refuses (file 1 0 0 (replicate 4100 0)) 4 0
+  pub records_1024 : Refuses (file 1 0 0 (replicate 4096 0)) 5 0
+  pub records_1025 : Refuses (file 1 0 0 (replicate 4100 0)) 4 0
   pub wraps : Refuses wrapping 3 0
-  pub garbage-n : Refuses garbage 3 0
+  pub garbage_n : Refuses garbage 3 0

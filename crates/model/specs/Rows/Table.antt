@@ -6,8 +6,8 @@ use Rattle.model.specs.declared.Relation.{Relation}
 use Rattle.model.specs.declared.Analysis.{Analysis}
 use Rattle.model.specs.declared.Answer.{Answer}
 use Rattle.model.specs.declared.Written.{Written}
-use Rattle.model.specs.Analysing.{analysisOf}
-use Rattle.model.specs.Question.{relationNumber, answer_of}
+use Rattle.model.specs.Analysing.{analysis_of}
+use Rattle.model.specs.Question.{relation_number, answer_of}
 use Rattle.model.specs.Writing.{written_of}
 use Rattle.model.specs.Rows.Starred.{of, W, P, Fork, file, A, G, I, RefusedAs, Refuses}
 use Rattle.model.specs.Rows.Faults.{trailer}
@@ -36,7 +36,7 @@ excess = record { tasks = 17; semaphores = 0; cells = 0; edition = 2 }
 
 -- the answer to a question has this number
 abbrev pub AnsweredAs : Answer → ℕ → Type 0
-AnsweredAs answer n = (r : Relation) × (answer ≡ Answer.Related r) × (relationNumber r ≡ n)
+AnsweredAs answer n = (r : Relation) × (answer ≡ Answer.Related r) × (relation_number r ≡ n)
 
 pub record Table : Type 0 where
   -- number and record; of the later ones also the pairs needed
@@ -48,59 +48,59 @@ pub record Table : Type 0 where
   pub name : Refuses (file 1 1 1 (W 0 ++ W 1)) 6 1
   pub life : Refuses (file 1 1 1 (W 0 ++ Fork 0 0)) 7 1
   pub empty : Refuses (file 1 1 1 (W 0 ++ P 0)) 8 1
-  pub work : RefusedAs Analysis.Refused (analysisOf A 0 (lent 15) (lent 3)) 9 0 0
-  pub work-3 : RefusedAs Analysis.Refused (analysisOf idle 0 (lent 11) []) 9 0 0
-  pub work-asked : RefusedAs Answer.Refused (answer_of A 0 3 0 (lent 15)) 9 0 0
-  pub list : RefusedAs Analysis.Refused (analysisOf A 0 (lent 16) (lent 2)) 10 0 1
-  pub list-3 : RefusedAs Analysis.Refused (analysisOf G 0 (lent 24) (lent 8)) 10 0 3
-  pub event-a : RefusedAs Answer.Refused (answer_of A 4 0 0 (lent 16)) 11 0 0
-  pub event-b : RefusedAs Answer.Refused (answer_of A 0 4 0 (lent 16)) 11 0 0
-  pub event-same : RefusedAs Answer.Refused (answer_of A 3 3 0 (lent 16)) 11 0 0
+  pub work : RefusedAs Analysis.Refused (analysis_of A 0 (lent 15) (lent 3)) 9 0 0
+  pub work_3 : RefusedAs Analysis.Refused (analysis_of idle 0 (lent 11) []) 9 0 0
+  pub work_asked : RefusedAs Answer.Refused (answer_of A 0 3 0 (lent 15)) 9 0 0
+  pub list : RefusedAs Analysis.Refused (analysis_of A 0 (lent 16) (lent 2)) 10 0 1
+  pub list_3 : RefusedAs Analysis.Refused (analysis_of G 0 (lent 24) (lent 8)) 10 0 3
+  pub event_a : RefusedAs Answer.Refused (answer_of A 4 0 0 (lent 16)) 11 0 0
+  pub event_b : RefusedAs Answer.Refused (answer_of A 0 4 0 (lent 16)) 11 0 0
+  pub event_same : RefusedAs Answer.Refused (answer_of A 3 3 0 (lent 16)) 11 0 0
   pub out : RefusedAs Written.Refused (written_of (W 0) least [] [] (lent 19)) 12 0 0
-  pub out-starts : RefusedAs Written.Refused (written_of (W 0) (edited 2) (lent 2) [] (lent 21)) 12 0 0
-  pub out-posts : RefusedAs Written.Refused (written_of (W 0) flagged (lent 2) (lent 1) (lent 22)) 12 0 0
+  pub out_starts : RefusedAs Written.Refused (written_of (W 0) (edited 2) (lent 2) [] (lent 21)) 12 0 0
+  pub out_posts : RefusedAs Written.Refused (written_of (W 0) flagged (lent 2) (lent 1) (lent 22)) 12 0 0
   pub starts : RefusedAs Written.Refused (written_of (W 0) (edited 2) (lent 1) [] (lent 22)) 13 0 0
   pub starts_more : RefusedAs Written.Refused (written_of (W 0) (edited 2) (lent 3) [] (lent 23)) 13 0 0
-  pub starts-edition-1 : RefusedAs Written.Refused (written_of (W 0) (edited 1) (lent 2) [] (lent 22)) 13 0 0
-  pub starts-edition-3 : RefusedAs Written.Refused (written_of (W 0) flagged (lent 1) (lent 1) (lent 30)) 13 0 0
-  pub starts-more-edition-3 : RefusedAs Written.Refused (written_of (W 0) flagged (lent 3) (lent 1) (lent 30)) 13 0 0
+  pub starts_edition_1 : RefusedAs Written.Refused (written_of (W 0) (edited 1) (lent 2) [] (lent 22)) 13 0 0
+  pub starts_edition_3 : RefusedAs Written.Refused (written_of (W 0) flagged (lent 1) (lent 1) (lent 30)) 13 0 0
+  pub starts_more_edition_3 : RefusedAs Written.Refused (written_of (W 0) flagged (lent 3) (lent 1) (lent 30)) 13 0 0
   pub posts : RefusedAs Written.Refused (written_of (W 0) flagged (lent 2) [] (lent 30)) 13 0 0
-  pub posts-more : RefusedAs Written.Refused (written_of (W 0) flagged (lent 2) (lent 2) (lent 30)) 13 0 0
-  pub posts-as-starts : RefusedAs Written.Refused (written_of (W 0) flagged (lent 3) [] (lent 30)) 13 0 0
-  pub posts-edition-1 : RefusedAs Written.Refused (written_of (W 0) least [] (lent 1) (lent 30)) 13 0 0
-  pub posts-edition-2 : RefusedAs Written.Refused (written_of (W 0) (edited 2) (lent 2) (lent 1) (lent 30)) 13 0 0
+  pub posts_more : RefusedAs Written.Refused (written_of (W 0) flagged (lent 2) (lent 2) (lent 30)) 13 0 0
+  pub posts_as_starts : RefusedAs Written.Refused (written_of (W 0) flagged (lent 3) [] (lent 30)) 13 0 0
+  pub posts_edition_1 : RefusedAs Written.Refused (written_of (W 0) least [] (lent 1) (lent 30)) 13 0 0
+  pub posts_edition_2 : RefusedAs Written.Refused (written_of (W 0) (edited 2) (lent 2) (lent 1) (lent 30)) 13 0 0
   pub flag : Refuses (after 1 (W 0 ++ Await 0)) 16 1
   -- writing refuses by 2 to 8 and 16 what reading would
-  pub edition-0-written : RefusedAs Written.Refused (written_of (W 0) (edited 0) [] [] (lent 22)) 2 0 0
-  pub edition-4-written : RefusedAs Written.Refused (written_of (W 0) (edited 4) (lent 2) [] (lent 22)) 2 0 0
-  pub extent-written : RefusedAs Written.Refused (written_of (0 ∷ []) least [] [] (lent 17)) 3 0 0
-  pub count-written : RefusedAs Written.Refused (written_of [] excess [] [] (lent 16)) 4 0 0
-  pub flags-written : RefusedAs Written.Refused (written_of [] (counted 1 0 65 0) [] (lent 65) (lent 90)) 4 0 0
-  pub kind-written : RefusedAs Written.Refused (written_of (W 0 ++ of 7 0 0) least [] [] (lent 24)) 5 1 0
-  pub empty-written : RefusedAs Written.Refused (written_of (P 0 ++ P 0) (edited 2) (1 ∷ 0 ∷ []) [] (lent 26)) 8 1 0
-  pub flag-written : RefusedAs Written.Refused (written_of (Post 0 ++ Await 0) flagged (lent 2) (2 ∷ []) (lent 30)) 16 1 0
+  pub edition_0_written : RefusedAs Written.Refused (written_of (W 0) (edited 0) [] [] (lent 22)) 2 0 0
+  pub edition_4_written : RefusedAs Written.Refused (written_of (W 0) (edited 4) (lent 2) [] (lent 22)) 2 0 0
+  pub extent_written : RefusedAs Written.Refused (written_of (0 ∷ []) least [] [] (lent 17)) 3 0 0
+  pub count_written : RefusedAs Written.Refused (written_of [] excess [] [] (lent 16)) 4 0 0
+  pub flags_written : RefusedAs Written.Refused (written_of [] (counted 1 0 65 0) [] (lent 65) (lent 90)) 4 0 0
+  pub kind_written : RefusedAs Written.Refused (written_of (W 0 ++ of 7 0 0) least [] [] (lent 24)) 5 1 0
+  pub empty_written : RefusedAs Written.Refused (written_of (P 0 ++ P 0) (edited 2) (1 ∷ 0 ∷ []) [] (lent 26)) 8 1 0
+  pub flag_written : RefusedAs Written.Refused (written_of (Post 0 ++ Await 0) flagged (lent 2) (2 ∷ []) (lent 30)) 16 1 0
   -- a lent post count of 0 is 4, in every edition
-  pub post-0 : RefusedAs Written.Refused (written_of (W 0) flagged (lent 2) (0 ∷ []) (lent 30)) 4 0 0
-  pub post-0-edition-2 : RefusedAs Written.Refused (written_of (W 0) (edited 2) (lent 2) (0 ∷ []) (lent 30)) 4 0 0
-  pub post-0-edition-1 : RefusedAs Written.Refused (written_of (W 0) least [] (0 ∷ []) (lent 30)) 4 0 0
+  pub post_0 : RefusedAs Written.Refused (written_of (W 0) flagged (lent 2) (0 ∷ []) (lent 30)) 4 0 0
+  pub post_0_edition_2 : RefusedAs Written.Refused (written_of (W 0) (edited 2) (lent 2) (0 ∷ []) (lent 30)) 4 0 0
+  pub post_0_edition_1 : RefusedAs Written.Refused (written_of (W 0) least [] (0 ∷ []) (lent 30)) 4 0 0
   -- where two apply
-  pub file-before-work : RefusedAs Analysis.Refused (analysisOf I 0 [] []) 7 0 0
-  pub file-before-event : RefusedAs Answer.Refused (answer_of I 0 0 0 []) 7 0 0
-  pub event-before-work : RefusedAs Answer.Refused (answer_of A 0 0 0 (lent 15)) 11 0 0
-  pub work-before-list : RefusedAs Analysis.Refused (analysisOf A 0 (lent 15) (lent 2)) 9 0 0
-  pub edition-before-extent : RefusedAs Written.Refused (written_of (0 ∷ []) (edited 4) [] (0 ∷ []) []) 2 0 0
-  pub extent-before-count : RefusedAs Written.Refused (written_of (0 ∷ []) excess [] [] []) 3 0 0
-  pub extent-before-post : RefusedAs Written.Refused (written_of (0 ∷ []) flagged (lent 2) (0 ∷ []) []) 3 0 0
-  pub extent-before-kind : RefusedAs Written.Refused (written_of (0 ∷ of 7 0 0) least [] [] []) 3 0 0
-  pub count-before-starts : RefusedAs Written.Refused (written_of [] excess (lent 1) [] []) 4 0 0
-  pub post-before-starts : RefusedAs Written.Refused (written_of [] flagged [] (lent 1 ++ (0 ∷ [])) []) 4 0 0
-  pub starts-before-record : RefusedAs Written.Refused (written_of (Fork 0 0) least (lent 1) [] []) 13 0 0
-  pub posts-before-record : RefusedAs Written.Refused (written_of (Await 0) flagged (lent 2) [] []) 13 0 0
-  pub record-before-out : RefusedAs Written.Refused (written_of (Fork 0 0) least [] [] []) 7 0 0
-  pub flag-before-out : RefusedAs Written.Refused (written_of (Await 0) flagged (lent 2) (lent 1) []) 16 0 0
+  pub file_before_work : RefusedAs Analysis.Refused (analysis_of I 0 [] []) 7 0 0
+  pub file_before_event : RefusedAs Answer.Refused (answer_of I 0 0 0 []) 7 0 0
+  pub event_before_work : RefusedAs Answer.Refused (answer_of A 0 0 0 (lent 15)) 11 0 0
+  pub work_before_list : RefusedAs Analysis.Refused (analysis_of A 0 (lent 15) (lent 2)) 9 0 0
+  pub edition_before_extent : RefusedAs Written.Refused (written_of (0 ∷ []) (edited 4) [] (0 ∷ []) []) 2 0 0
+  pub extent_before_count : RefusedAs Written.Refused (written_of (0 ∷ []) excess [] [] []) 3 0 0
+  pub extent_before_post : RefusedAs Written.Refused (written_of (0 ∷ []) flagged (lent 2) (0 ∷ []) []) 3 0 0
+  pub extent_before_kind : RefusedAs Written.Refused (written_of (0 ∷ of 7 0 0) least [] [] []) 3 0 0
+  pub count_before_starts : RefusedAs Written.Refused (written_of [] excess (lent 1) [] []) 4 0 0
+  pub post_before_starts : RefusedAs Written.Refused (written_of [] flagged [] (lent 1 ++ (0 ∷ [])) []) 4 0 0
+  pub starts_before_record : RefusedAs Written.Refused (written_of (Fork 0 0) least (lent 1) [] []) 13 0 0
+  pub posts_before_record : RefusedAs Written.Refused (written_of (Await 0) flagged (lent 2) [] []) 13 0 0
+  pub record_before_out : RefusedAs Written.Refused (written_of (Fork 0 0) least [] [] []) 7 0 0
+  pub flag_before_out : RefusedAs Written.Refused (written_of (Await 0) flagged (lent 2) (lent 1) []) 16 0 0
   -- 1 a first, 2 b first, 3 open, 4 sure
   pub a_first : AnsweredAs (answer_of A 0 3 1 (lent 16)) 1
-  pub b-first : AnsweredAs (answer_of A 3 0 1 (lent 16)) 2
+  pub b_first : AnsweredAs (answer_of A 3 0 1 (lent 16)) 2
   pub is_open : AnsweredAs (answer_of A 0 3 0 (lent 16)) 3
-  pub open-back : AnsweredAs (answer_of A 3 0 0 (lent 16)) 3
-  pub is-sure : AnsweredAs (answer_of (file 2 0 1 (W 0 ++ W 1)) 0 1 0 (lent 8)) 4
+  pub open_back : AnsweredAs (answer_of A 3 0 0 (lent 16)) 3
+  pub is_sure : AnsweredAs (answer_of (file 2 0 1 (W 0 ++ W 1)) 0 1 0 (lent 8)) 4

@@ -4,11 +4,11 @@ use mathlib.Core.Bool.{Bool, not, ◌&&◌, ◌||◌}
 use lib.Dec.{eqb}
 use borrow.Author.Rules.{rules}
 use Rattle.model.specs.declared.Event.{Event}
-use Rattle.model.specs.Pairs.{isWrite, isAccess, isSingle, conflict}
+use Rattle.model.specs.Pairs.{is_write, is_access, is_single, conflict}
 use Rattle.pairs.proofs.conflict.Statement.{statement}
 use Rattle.pairs.proofs.conflict.Tie as tie
 
-tests : (v w : Event) (a b x y m n : Bool) → a ≡ isAccess v → b ≡ isAccess w → x ≡ isWrite v → y ≡ isWrite w → m ≡ isSingle v → n ≡ isSingle w
+tests : (v w : Event) (a b x y m n : Bool) → a ≡ is_access v → b ≡ is_access w → x ≡ is_write v → y ≡ is_write w → m ≡ is_single v → n ≡ is_single w
     → (a && b && eqb v.object w.object && not (eqb v.task w.task) && (x || y) && not (m && n)) ≡ conflict v w
 unfolding conflict
 tests v w a b x y m n p q r s t u = rw (p, q, r, s, t, u)

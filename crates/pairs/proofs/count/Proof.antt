@@ -3,10 +3,10 @@ use mathlib.Core.Path.{◌≡◌, refl}
 use mathlib.Core.List.{[]}
 use Prim.Native.Nat.{◌*◌, ◌-◌, ◌≤◌}
 use native.Mathlib.Omega.{arith}
-use Rattle.model.specs.File.{recordingBy}
-use Rattle.model.specs.Pairs.{cellEntries, entriesIn}
-use Rattle.passes.specs.Lent.{vectorsIn}
-use Rattle.pairs.proofs.Race.{Counted, count_none, count-more, count-all, cell-few}
+use Rattle.model.specs.File.{recording_by}
+use Rattle.model.specs.Pairs.{cell_entries, entries_in}
+use Rattle.passes.specs.Lent.{vectors_in}
+use Rattle.pairs.proofs.Race.{Counted, count_none, count_more, count_all, cell_few}
 use Rattle.pairs.proofs.count.Statement.{statement}
 use Rattle.pairs.proofs.count.Tie as tie
 
@@ -16,7 +16,7 @@ invariant-loop records counts positions order chain safe cells pairs₀ cell₀ 
     × (cell ≤ cells)
     × (cells ≡ counts.cells)
     × (pairs ≤ 1048576 * cell)
-    × Counted (λ R. cellEntries (recordingBy records counts []) (vectorsIn records counts safe) R order) cell pairs
+    × Counted (λ R. cell_entries (recording_by records counts []) (vectors_in records counts safe) R order) cell pairs
 
 abbrev decreases-loop : tie.decreases-loop
 decreases-loop records counts positions order chain safe cells pairs₀ cell₀ pairs cell = cells - cell
@@ -28,16 +28,16 @@ loop-holds c = (c.before.before.before.before.requires.1.1, omega arith, refl, o
 few : (c : tie.After-count-cell invariant-loop decreases-loop) → c.count-cell.result ≤ 1048576
 few c =
     let s = c.before.before.before.before.before.before.before in
-    cell-few _ _ _ s.args.order.now s.requires.1.0.along.few _ c.count-cell.ensures
+    cell_few _ _ _ s.args.order.now s.requires.1.0.along.few _ c.count-cell.ensures
 
 loop-again : tie.Need-loop-preserved invariant-loop decreases-loop
 loop-again c =
     let k = c.before.before.loop in
-    (omega arith, omega arith, k.invariant.2, omega (arith, few c), count-more _ k.cell k.pairs c.count-cell.result _ k.invariant.4 c.count-cell.ensures (omega arith))
+    (omega arith, omega arith, k.invariant.2, omega (arith, few c), count_more _ k.cell k.pairs c.count-cell.result _ k.invariant.4 c.count-cell.ensures (omega arith))
 
 returns : tie.Need-returns invariant-loop decreases-loop
-unfolding entriesIn
-returns c = count-all _ _ _ _ 0 c.before.loop.invariant.4 (omega arith)
+unfolding entries_in
+returns c = count_all _ _ _ _ 0 c.before.loop.invariant.4 (omega arith)
 
 pub count_spec : {M : Type 1} → statement M
 count_spec =

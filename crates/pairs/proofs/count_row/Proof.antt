@@ -5,15 +5,15 @@ use mathlib.Core.List.{List, []}
 use Prim.Native.Nat.{ℕ, ◌+◌, ◌-◌, ◌≤◌, ◌<◌}
 use native.Mathlib.Omega.{arith}
 use lib.ListN.{length, get_or}
-use Rattle.model.specs.Recording.{eventIn}
-use Rattle.model.specs.File.{eventsOf, recordingBy}
+use Rattle.model.specs.Recording.{event_in}
+use Rattle.model.specs.File.{events_of, recording_by}
 use Rattle.model.specs.Vectors.{Vectors}
 use Rattle.model.specs.Pairs.{Entry}
-use Rattle.passes.specs.Lent.{vectorsIn}
-use Rattle.events.specs.Chains.{accessOf}
+use Rattle.passes.specs.Lent.{vectors_in}
+use Rattle.events.specs.Chains.{access_of}
 use Rattle.pairs.specs.Chains.{Nearest}
 use Rattle.pairs.proofs.Chains.{next_place}
-use Rattle.pairs.proofs.Race.{Counted, count-more, count-skip, count-all, pairIn, row-each, behind-hit, pair-few, pair-skip, pair-start}
+use Rattle.pairs.proofs.Race.{Counted, count_more, count_skip, count_all, pair_in, row_each, behind_hit, pair_few, pair_skip, pair_start}
 use Rattle.pairs.proofs.count_row.Statement.{statement}
 use Rattle.pairs.proofs.count_row.Tie as tie
 
@@ -24,8 +24,8 @@ invariant-loop records counts positions order chain safe i n a pairs₀ j₀ pai
     × (n ≡ length order)
     × (a ≡ get_or order i 0)
     × (pairs ≤ j)
-    × (j < length order → accessOf records order (eventIn (eventsOf records) (get_or order i 0)).object j ≡ true)
-    × Counted (λ R. pairIn (recordingBy records counts []) (vectorsIn records counts safe) R order i) j pairs
+    × (j < length order → access_of records order (event_in (events_of records) (get_or order i 0)).object j ≡ true)
+    × Counted (λ R. pair_in (recording_by records counts []) (vectors_in records counts safe) R order i) j pairs
 
 abbrev decreases-loop : tie.decreases-loop
 decreases-loop records counts positions order chain safe i n a pairs₀ j₀ pairs j = n - j
@@ -36,10 +36,10 @@ module _ (s : tie.Start invariant-loop decreases-loop) where
 
   -- the cell of the event at place i
   abbrev cell : ℕ
-  cell = (eventIn (eventsOf s.args.records.now) (get_or order s.args.i 0)).object
+  cell = (event_in (events_of s.args.records.now) (get_or order s.args.i 0)).object
 
   abbrev pairs : Vectors → ℕ → List Entry
-  pairs R = pairIn (recordingBy s.args.records.now s.args.counts []) (vectorsIn s.args.records.now s.args.counts s.args.safe.now) R order s.args.i
+  pairs R = pair_in (recording_by s.args.records.now s.args.counts []) (vectors_in s.args.records.now s.args.counts s.args.safe.now) R order s.args.i
 
   -- the place behind i in its chain
   behind : Nearest s.args.records.now order cell (s.args.i + 1) (get_or s.args.chain.now s.args.i 0)
@@ -52,7 +52,7 @@ loop-holds : tie.Need-loop-init invariant-loop decreases-loop
 loop-holds c =
     let s = c.before.before.before.before.before.before in
     let n = behind s in
-    (omega (arith, n.low), n.high, omega arith, c.before.at_place.ensures, omega arith, n.hit, λ R. sym (ap length (pair-start _ _ _ R (order s) s.args.i _ n)))
+    (omega (arith, n.low), n.high, omega arith, c.before.at_place.ensures, omega arith, n.hit, λ R. sym (ap length (pair_start _ _ _ R (order s) s.args.i _ n)))
 
 count-pair-requires : tie.Need-count-pair-requires invariant-loop decreases-loop
 count-pair-requires c κs =
@@ -76,12 +76,12 @@ module _ (c : tie.After-count-pair invariant-loop decreases-loop) where
   near = next_place s.pre.1.0 (cell s) s.pre.1.1.cell k.loop.j inside (k.loop.inv.5 inside)
 
   few : c.count-pair.result ≤ 1
-  few = pair-few _ _ _ _ _ c.count-pair.ensures
+  few = pair_few _ _ _ _ _ c.count-pair.ensures
 
   counted : (R : Vectors) → c.count-pair.result ≡ length (pairs s R k.loop.j)
   counted R =
       c.count-pair.ensures R
-      ∙ sym (ap length (behind-hit _ _ R (order s) _ _ s.args.i k.loop.j k.loop.inv.3 c.before.at-place2.ensures k.loop.inv.0))
+      ∙ sym (ap length (behind_hit _ _ R (order s) _ _ s.args.i k.loop.j k.loop.inv.3 c.before.at-place2.ensures k.loop.inv.0))
 
 loop-again : tie.Need-loop-preserved invariant-loop decreases-loop
 loop-again c =
@@ -95,13 +95,13 @@ loop-again c =
       p.inv.3,
       omega (arith, n.low),
       n.hit,
-      count-skip (pairs (s d)) _ _ _ 0 (λ R. pair-skip _ _ _ R (order (s d)) (s d).args.i _ _ n) (count-more (pairs (s d)) p.j p.pairs d.count-pair.result _ p.inv.6 (counted d) (omega arith)),
+      count_skip (pairs (s d)) _ _ _ 0 (λ R. pair_skip _ _ _ R (order (s d)) (s d).args.i _ _ n) (count_more (pairs (s d)) p.j p.pairs d.count-pair.result _ p.inv.6 (counted d) (omega arith)),
     )
 
 returns : tie.Need-returns invariant-loop decreases-loop
 returns c R =
     let s = c.before.before.before.before.before.before.before.before in
-    count-all (pairs s) c.before.loop.j _ (length (order s)) 0 c.before.loop.invariant.6 (omega arith) R ∙ sym (ap length (row-each _ _ R (order s) s.args.i))
+    count_all (pairs s) c.before.loop.j _ (length (order s)) 0 c.before.loop.invariant.6 (omega arith) R ∙ sym (ap length (row_each _ _ R (order s) s.args.i))
 
 pub count-row-spec : {M : Type 1} → statement M
 count-row-spec =

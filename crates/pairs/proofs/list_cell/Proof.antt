@@ -6,13 +6,13 @@ use Prim.Native.Nat.{ℕ, ◌+◌, ◌*◌, ◌-◌, ◌≤◌, ◌<◌}
 use native.Mathlib.Omega.{arith}
 use lib.ListN.{length, get_or}
 use Rattle.model.specs.Numbers.{each}
-use Rattle.model.specs.Pairs.{Entry, cellEntries}
+use Rattle.model.specs.Pairs.{Entry, cell_entries}
 use Rattle.pairs.specs.Lent.{over, row_of, Stored}
-use Rattle.events.specs.Chains.{accessOf, head}
+use Rattle.events.specs.Chains.{access_of, head}
 use Rattle.pairs.specs.Chains.{Nearest, InChain}
-use Rattle.pairs.proofs.Chains.{in-chain, first-place, next_place}
-use Rattle.pairs.proofs.Race.{row_in, cell-each, row-hit, row-skip}
-use Rattle.pairs.proofs.Stores.{stored-none, stored_more, stored-skip, stored-room, stored-all}
+use Rattle.pairs.proofs.Chains.{in_chain, first_place, next_place}
+use Rattle.pairs.proofs.Race.{row_in, cell_each, row_hit, row_skip}
+use Rattle.pairs.proofs.Stores.{stored_none, stored_more, stored_skip, stored_room, stored_all}
 use Rattle.pairs.proofs.list_cell.Statement.{statement}
 use Rattle.pairs.proofs.list_cell.Tie as tie
 
@@ -21,7 +21,7 @@ invariant-loop records counts positions order chain safe recorded cell out₀ p 
     (i ≤ length order)
     × (n ≡ length order)
     × (length out ≡ length out₀)
-    × (i < length order → accessOf records order cell i ≡ true)
+    × (i < length order → access_of records order cell i ≡ true)
     × Stored out₀ p (each (over row_in records counts safe recorded order cell) i) out next
 
 abbrev decreases-loop : tie.decreases-loop
@@ -34,12 +34,12 @@ module _ (s : tie.Start invariant-loop decreases-loop) where
   abbrev rows : ℕ → List Entry
   rows = over row_in s.args.records.now s.args.counts s.args.safe.now s.args.recorded.now order s.args.cell
 
-  whole : over cellEntries s.args.records.now s.args.counts s.args.safe.now s.args.recorded.now order s.args.cell ≡ each rows (length order)
-  whole = cell-each _ _ _ order s.args.cell
+  whole : over cell_entries s.args.records.now s.args.counts s.args.safe.now s.args.recorded.now order s.args.cell ≡ each rows (length order)
+  whole = cell_each _ _ _ order s.args.cell
 
   -- the first place of the chain
   ahead : Nearest s.args.records.now order s.args.cell 0 (get_or s.args.chain.now (head s.args.cell) 0)
-  ahead = first-place s.pre.0.1 s.args.cell s.pre.0.2
+  ahead = first_place s.pre.0.1 s.args.cell s.pre.0.2
 
   few-places : length order ≤ 1024
   few-places = s.pre.0.1.along.few
@@ -49,7 +49,7 @@ unfolding each
 loop-holds c =
     let s = c.before.before.before.before.before.before.before in
     let n = ahead s in
-    (n.high, omega arith, refl, n.hit, stored-none _ _ _ (row-skip _ _ _ _ (order s) s.args.cell 0 _ n))
+    (n.high, omega arith, refl, n.hit, stored_none _ _ _ (row_skip _ _ _ _ (order s) s.args.cell 0 _ n))
 
 -- the place at hand, and the next of the chain
 module _ (c : tie.In-loop invariant-loop decreases-loop) where
@@ -63,17 +63,17 @@ module _ (c : tie.In-loop invariant-loop decreases-loop) where
   inside = omega arith
 
   here : InChain s.args.records.now (order s) s.args.counts.cells k.loop.i
-  here = in-chain _ _ _ s.args.cell _ inside s.pre.0.2 (k.loop.inv.3 inside)
+  here = in_chain _ _ _ s.args.cell _ inside s.pre.0.2 (k.loop.inv.3 inside)
 
   near : Nearest s.args.records.now (order s) s.args.cell (k.loop.i + 1) (get_or s.args.chain.now k.loop.i 0)
   near = next_place s.pre.0.1 s.args.cell s.pre.0.2 k.loop.i inside (k.loop.inv.3 inside)
 
   the_row : rows s k.loop.i ≡ over row_of s.args.records.now s.args.counts s.args.safe.now s.args.recorded.now (order s) k.loop.i
-  the_row = row-hit _ _ _ (order s) s.args.cell k.loop.i (k.loop.inv.3 inside)
+  the_row = row_hit _ _ _ (order s) s.args.cell k.loop.i (k.loop.inv.3 inside)
 
   room : k.loop.next + 3 * length (rows s k.loop.i) ≤ length k.loop.out
   room =
-      stored-room (rows s) k.loop.i (length (order s)) (length k.loop.out) inside k.loop.inv.4 (omega (arith, s.pre.1, k.loop.inv.2, ap length (whole s)))
+      stored_room (rows s) k.loop.i (length (order s)) (length k.loop.out) inside k.loop.inv.4 (omega (arith, s.pre.1, k.loop.inv.2, ap length (whole s)))
 
 list-row-requires : tie.Need-list-row-requires invariant-loop decreases-loop
 list-row-requires c κs = let d = c.before in (((s d).requires.0.0, (s d).requires.0.1, here d), omega (arith, room d, ap length (the_row d)))
@@ -88,13 +88,13 @@ loop-again c =
       omega arith,
       f.list-row.auto.1.1.1.1.1.1.1.1.0 ∙ p.inv.2,
       n.hit,
-      stored-skip (rows (s d)) _ _ (row-skip _ _ _ _ (order (s d)) (s d).args.cell _ _ n) (stored_more (rows (s d)) p.i p.inv.4 (rw (the_row d) f.list-row.ensures)),
+      stored_skip (rows (s d)) _ _ (row_skip _ _ _ _ (order (s d)) (s d).args.cell _ _ n) (stored_more (rows (s d)) p.i p.inv.4 (rw (the_row d) f.list-row.ensures)),
     )
 
 returns : tie.Need-returns invariant-loop decreases-loop
 returns c =
     let s = c.before.before.before.before.before.before.before.before.before in
-    rw (whole s) (stored-all (rows s) c.before.loop.i (length (order s)) (omega arith) c.before.loop.invariant.4)
+    rw (whole s) (stored_all (rows s) c.before.loop.i (length (order s)) (omega arith) c.before.loop.invariant.4)
 
 pub list-cell-spec : {M : Type 1} → statement M
 list-cell-spec =

@@ -3,8 +3,8 @@ use native.Mathlib.Nat.{mul-le-mul}
 use native.Mathlib.Omega.{arith}
 use borrow.Author.Rules.{rules}
 use lib.ListN.{length}
-use Rattle.passes.specs.Lent.{vectorsIn}
-use Rattle.pairs.proofs.Race.{list-few}
+use Rattle.passes.specs.Lent.{vectors_in}
+use Rattle.pairs.proofs.Race.{list_few}
 use Rattle.pairs.proofs.Stores.{refused, enough, listed}
 use Rattle.pairs.proofs.list_chained.Statement.{statement}
 use Rattle.pairs.proofs.list_chained.Tie as tie
@@ -17,7 +17,7 @@ count-requires c κs =
 mul-if1 : tie.Need-overflow-mul-if1
 mul-if1 c =
     let s = c.before.before.before.before.before.before.before in
-    let n = list-few _ _ _ s.args.order.now s.requires.1.along.few s.requires.0.cells c.count.ensures in
+    let n = list_few _ _ _ s.args.order.now s.requires.1.along.few s.requires.0.cells c.count.ensures in
     omega (arith, mul-le-mul s.requires.2.1 n)
 
 returns : tie.Need-returns
@@ -28,7 +28,7 @@ list-all-requires c κs =
     let s = c.before.before.before.before.before.before.before.before.before in
     let n = c.before.before.count in
     let r = enough s.args.width n.result (length s.args.out.now) s.requires.2 c.before.if1.false in
-    ((s.requires.0, s.requires.1), omega (arith, r, n.ensures (vectorsIn s.args.records.now s.args.counts s.args.recorded.now)))
+    ((s.requires.0, s.requires.1), omega (arith, r, n.ensures (vectors_in s.args.records.now s.args.counts s.args.recorded.now)))
 
 returns-2 : tie.Need-returns-2
 returns-2 c =

@@ -5,9 +5,9 @@ use native.Mathlib.Omega.{arith}
 use borrow.Author.Rules.{rules}
 use borrow.Author.Tests.{not-true, not-false}
 use Rattle.model.specs.Recording.{Recording, event}
-use Rattle.model.specs.File.{recordingBy}
+use Rattle.model.specs.File.{recording_by}
 use Rattle.model.specs.Pairs.{conflict}
-use Rattle.pairs.proofs.Race.{race-none, race-by}
+use Rattle.pairs.proofs.Race.{race_none, race_by}
 use Rattle.pairs.proofs.race_pair.Statement.{statement}
 use Rattle.pairs.proofs.race_pair.Tie as tie
 
@@ -17,17 +17,17 @@ module _ (c : tie.After-conflict) where
   s = c.before.before.before.before.before.before
 
   abbrev E : Recording
-  E = recordingBy s.args.records.now s.args.counts []
+  E = recording_by s.args.records.now s.args.counts []
 
   the-conflict : c.conflict.result ≡ conflict (event E s.args.a) (event E s.args.b)
-  the-conflict = c.conflict.ensures ∙ ap₂ conflict c.before.before.event-at.ensures c.before.event-at2.ensures
+  the-conflict = c.conflict.ensures ∙ ap₂ conflict c.before.before.event_at.ensures c.before.event-at2.ensures
 
 returns : tie.Need-returns
-returns c = race-none _ _ _ _ (sym (the-conflict c.before) ∙ not-true _ c.if1.true)
+returns c = race_none _ _ _ _ (sym (the-conflict c.before) ∙ not-true _ c.if1.true)
 
 returns-2 : tie.Need-returns-2
 returns-2 c =
-    race-by _ _ _ _ _ (sym (the-conflict c.before.before) ∙ not-false _ c.before.if1.false) c.unordered.ensures
+    race_by _ _ _ _ _ (sym (the-conflict c.before.before) ∙ not-false _ c.before.if1.false) c.unordered.ensures
 
 pub race-pair-spec : {M : Type 1} → statement M
 race-pair-spec =

@@ -5,14 +5,14 @@ use Prim.Native.Nat.{◌-◌, ◌≤◌}
 use native.Mathlib.Omega.{arith}
 use lib.ListN.{length}
 use Rattle.model.specs.Recording.{size}
-use Rattle.model.specs.File.{recordingBy}
-use Rattle.model.specs.Passes.{passTo}
+use Rattle.model.specs.File.{recording_by}
+use Rattle.model.specs.Passes.{pass_to}
 use Rattle.vectors.specs.Rows.{Rose}
-use Rattle.vectors.proofs.Rising.{rose-none, rose-then}
-use Rattle.passes.specs.Lent.{vectorsIn}
+use Rattle.vectors.proofs.Rising.{rose_none, rose_then}
+use Rattle.passes.specs.Lent.{vectors_in}
 use Rattle.passes.specs.Stamps.{KnownIn}
-use Rattle.passes.proofs.Runs.{pass-start, pass-next, pass-end}
-use Rattle.passes.proofs.Stamps.{known-pass}
+use Rattle.passes.proofs.Runs.{pass_start, pass_next, pass_end}
+use Rattle.passes.proofs.Stamps.{known_pass}
 use Rattle.passes.proofs.pass.Statement.{statement}
 use Rattle.passes.proofs.pass.Tie as tie
 
@@ -20,7 +20,7 @@ abbrev invariant-loop : tie.invariant-loop
 invariant-loop records counts levels positions sources chains base when₀ v₀ n changed₀ e₀ when v changed e =
     (e ≤ n)
     × (length v ≡ length v₀)
-    × (vectorsIn records counts v ≡ passTo (recordingBy records counts levels) (vectorsIn records counts v₀) e)
+    × (vectors_in records counts v ≡ pass_to (recording_by records counts levels) (vectors_in records counts v₀) e)
     × Rose v₀ v changed
     × KnownIn records counts levels v sources when base e
 
@@ -28,7 +28,7 @@ abbrev decreases-loop : tie.decreases-loop
 decreases-loop records counts levels positions sources chains base when₀ v₀ n changed₀ e₀ when v changed e = n - e
 
 loop-holds : tie.Need-loop-init invariant-loop decreases-loop
-loop-holds c = (omega arith, refl, pass-start _ _, rose-none _, c.before.before.before.before.requires.1.1)
+loop-holds c = (omega arith, refl, pass_start _ _, rose_none _, c.before.before.before.before.requires.1.1)
 
 turn-requires : tie.Need-turn-requires invariant-loop decreases-loop
 turn-requires c κs =
@@ -43,8 +43,8 @@ loop-again c =
     let f = c.before.before.turn in (
       omega arith,
       f.auto.1.1.1.1.1.1.1.1.1.0 ∙ k.invariant.1,
-      pass-next (recordingBy a.records.now a.counts a.levels.now) (vectorsIn a.records.now a.counts a.v.now) _ _ k.e k.invariant.2 f.ensures.0,
-      rose-then k.invariant.3 f.ensures.1.0,
+      pass_next (recording_by a.records.now a.counts a.levels.now) (vectors_in a.records.now a.counts a.v.now) _ _ k.e k.invariant.2 f.ensures.0,
+      rose_then k.invariant.3 f.ensures.1.0,
       f.ensures.1.1,
     )
 
@@ -53,10 +53,10 @@ returns c =
     let s = c.before.before.before.before.before.before in
     let a = s.args in
     let k = c.before.loop in
-    let E = recordingBy a.records.now a.counts a.levels.now in
+    let E = recording_by a.records.now a.counts a.levels.now in
     let records = s.requires.0.0.placed.records in
     let q : k.e ≡ size E = omega (arith, records.whole) in
-    (pass-end E (vectorsIn a.records.now a.counts a.v.now) _ k.e q k.invariant.2, (k.invariant.3, known-pass E _ a.sources.now k.when a.base k.e q (omega (arith, records.few)) k.invariant.4))
+    (pass_end E (vectors_in a.records.now a.counts a.v.now) _ k.e q k.invariant.2, (k.invariant.3, known_pass E _ a.sources.now k.when a.base k.e q (omega (arith, records.few)) k.invariant.4))
 
 pub pass_spec : {M : Type 1} → statement M
 pass_spec =

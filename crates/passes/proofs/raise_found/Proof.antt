@@ -3,8 +3,8 @@
 use mathlib.Core.Path.{sym, ap, ◌∙◌}
 use native.Mathlib.Omega.{arith}
 use borrow.Author.Rules.{rules}
-use Rattle.passes.specs.Lent.{raisedFound}
-use Rattle.vectors.proofs.Rising.{rose-none}
+use Rattle.passes.specs.Lent.{raised_found}
+use Rattle.vectors.proofs.Rising.{rose_none}
 use Rattle.passes.proofs.raise_found.Statement.{statement}
 use Rattle.passes.proofs.raise_found.Tie as tie
 
@@ -18,12 +18,12 @@ returns : tie.Need-returns
 returns c =
     let a = c.before.before.before.before.before.before.before.before.args in
     let f = c.before.before.raise-row in
-    (f.ensures.0 ∙ sym (ap (raisedFound a.tasks a.v.now a.e) c.before.before.before.before.before.from.given.1), f.ensures.1)
+    (f.ensures.0 ∙ sym (ap (raised_found a.tasks a.v.now a.e) c.before.before.before.before.before.from.given.1), f.ensures.1)
 
 returns-2 : tie.Need-returns-2
 returns-2 c =
     let a = c.before.before.before.args in
-    (sym (ap (raisedFound a.tasks a.v.now a.e) c.enum_told.given.1), rose-none a.v.now)
+    (sym (ap (raised_found a.tasks a.v.now a.e) c.enum_told.given.1), rose_none a.v.now)
 
 pub raise-found-spec : {M : Type 1} → statement M
 raise-found-spec =

@@ -7,12 +7,12 @@ use native.Mathlib.Omega.{arith}
 use borrow.Author.Rules.{rules}
 use lib.ListN.{length, take}
 use lib.Seq.{take_at}
-use Rattle.model.specs.File.{eventsOf}
+use Rattle.model.specs.File.{events_of}
 use Rattle.vectors.specs.Rows.{chunks}
 use Rattle.vectors.proofs.Chunks.{next_row}
-use Rattle.passes.specs.Lent.{vectorsIn}
-use Rattle.passes.specs.Steps.{candidatesOn}
-use Rattle.passes.proofs.Waits.{candidates-few, candidates-below, chunks-waited}
+use Rattle.passes.specs.Lent.{vectors_in}
+use Rattle.passes.specs.Steps.{candidates_on}
+use Rattle.passes.proofs.Waits.{candidates_few, candidates_below, chunks_waited}
 use Rattle.passes.proofs.raise_wait.Statement.{statement}
 use Rattle.passes.proofs.raise_wait.Tie as tie
 
@@ -20,7 +20,7 @@ use Rattle.passes.proofs.raise_wait.Tie as tie
 abbrev listed : tie.After-candidates → List ℕ
 listed c =
     let a = c.before.before.before.before.before.before.args in
-    candidatesOn (eventsOf a.records.now) (vectorsIn a.records.now a.counts a.v.now) a.e a.kind a.x
+    candidates_on (events_of a.records.now) (vectors_in a.records.now a.counts a.v.now) a.e a.kind a.x
 
 the-found : (c : tie.After-candidates) → take c.candidates.result c.candidates.new.1.1.1.1.1.1.1.1.0 ≡ listed c
 the-found c = ap (take c.candidates.result) c.candidates.ensures.1 ∙ take_at (listed c) _ _ (sym c.candidates.ensures.0)
@@ -29,19 +29,19 @@ few : (c : tie.After-candidates) → c.candidates.result ≤ 1024
 few c =
     let s = c.before.before.before.before.before.before in
     let a = s.args in
-    omega (arith, c.candidates.ensures.0, candidates-few (eventsOf a.records.now) (vectorsIn a.records.now a.counts a.v.now) a.e a.kind a.x, s.requires.0.0.records.few)
+    omega (arith, c.candidates.ensures.0, candidates_few (events_of a.records.now) (vectors_in a.records.now a.counts a.v.now) a.e a.kind a.x, s.requires.0.0.records.few)
 
 raise-to-kth-requires : tie.Need-raise-to-kth-requires
 raise-to-kth-requires c κs =
     let d = c.before.before.before.before in
     let s = c.before.before.before.before.before.before.before.before.before.before in
     let a = s.args in
-    let l = eventsOf a.records.now in
-    let X = vectorsIn a.records.now a.counts a.v.now in
+    let l = events_of a.records.now in
+    let X = vectors_in a.records.now a.counts a.v.now in
     let m = a.counts.tasks in
     rw (the-found d) (
       (omega (arith, next_row a.e (length l) m s.requires.0.2, s.requires.0.1), omega (arith, few d, d.candidates.ensures.0)),
-      λ i h. omega (arith, next_row _ (length l) m (candidates-below l X a.e a.kind a.x i h), s.requires.0.1),
+      λ i h. omega (arith, next_row _ (length l) m (candidates_below l X a.e a.kind a.x i h), s.requires.0.1),
     )
 
 returns : tie.Need-returns
@@ -49,10 +49,10 @@ returns c =
     let d = c.before.before.before.before.before.before.before in
     let s = c.before.before.before.before.before.before.before.before.before.before.before.before.before in
     let a = s.args in
-    let l = eventsOf a.records.now in
+    let l = events_of a.records.now in
     let f = c.before.before.raise-to-kth in (
       ap (chunks (length l) a.counts.tasks) f.ensures.0
-          ∙ chunks-waited a.counts l a.v.now a.e a.kind a.x a.k _ s.requires.0.1 s.requires.0.2 (the-found d),
+          ∙ chunks_waited a.counts l a.v.now a.e a.kind a.x a.k _ s.requires.0.1 s.requires.0.2 (the-found d),
       f.ensures.1,
     )
 

@@ -3,7 +3,7 @@
 use mathlib.Core.Path.{ap, ◌∙◌}
 use native.Mathlib.Omega.{arith}
 use Rattle.model.specs.Vectors.{flat}
-use Rattle.model.proofs.Levels.{start-levels}
+use Rattle.model.proofs.Levels.{start_levels}
 use Rattle.passes.proofs.run.Statement.{statement}
 use Rattle.passes.proofs.run.Tie as tie
 
@@ -11,7 +11,7 @@ passes-requires : tie.Need-passes-requires
 passes-requires c κs =
     let s = c.before.before.before.before.before.before.before.before.before in
     let x = c.before.before.before.start in
-    ((s.requires.0, x.auto.1.1.1.0 ∙ s.requires.1), x.ensures ∙ ap flat (start-levels s.args.records.now s.args.counts s.args.levels.now))
+    ((s.requires.0, x.auto.1.1.1.0 ∙ s.requires.1), x.ensures ∙ ap flat (start_levels s.args.records.now s.args.counts s.args.levels.now))
 
 pub run_spec : {M : Type 1} → statement M
 run_spec =

@@ -15,7 +15,7 @@ returns c =
     let s = c.before.before.before.before.before.before.before.before.before.before.before in
     let a = s.args in
     c.before.before.fill-row.ensures
-    ∙ ap₂ (λ (v : Event) (x : ℕ). sets a.v.now a.from (own_row a.counts.tasks v.task x)) c.before.before.before.before.before.before.before.event-at.ensures (s.requires.0.kept.placed a.e s.requires.1)
+    ∙ ap₂ (λ (v : Event) (x : ℕ). sets a.v.now a.from (own_row a.counts.tasks v.task x)) c.before.before.before.before.before.before.before.event_at.ensures (s.requires.0.kept.placed a.e s.requires.1)
 
 pub start-event-spec : {M : Type 1} → statement M
 start-event-spec =

@@ -8,7 +8,7 @@ use Rattle.passes.proofs.still.Tie as tie
 
 returns : tie.Need-returns
 unfolding still
-returns c = rw (c.before.before.before.before.before.served-at.ensures.0, c.before.before.before.before.before.before.event-at.ensures)
+returns c = rw (c.before.before.before.before.before.served-at.ensures.0, c.before.before.before.before.before.before.event_at.ensures)
 
 pub still-spec : {M : Type 1} → statement M
 still-spec =

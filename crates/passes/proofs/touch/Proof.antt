@@ -5,7 +5,7 @@ use Rattle.passes.proofs.touch.Statement.{statement}
 use Rattle.passes.proofs.touch.Tie as tie
 
 returns : tie.Need-returns
-returns c = rw (c.slot_of.ensures.0, c.before.event-at.ensures)
+returns c = rw (c.slot_of.ensures.0, c.before.event_at.ensures)
 
 pub touch-spec : {M : Type 1} → statement M
 touch-spec =

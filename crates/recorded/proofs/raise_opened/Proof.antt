@@ -7,13 +7,13 @@ use native.Mathlib.Omega.{arith}
 use borrow.Author.Rules.{rules}
 use lib.ListN.{take}
 use Rattle.model.specs.declared.Event.{Event}
-use Rattle.model.specs.Recording.{Recording, size, kind_of, flagWait, post_of}
-use Rattle.model.specs.File.{recordingBy}
-use Rattle.model.specs.Passes.{postsOn}
-use Rattle.vectors.proofs.Chunks.{chunks-shaped}
-use Rattle.passes.specs.Lent.{vectorsIn}
+use Rattle.model.specs.Recording.{Recording, size, kind_of, flag_wait, post_of}
+use Rattle.model.specs.File.{recording_by}
+use Rattle.model.specs.Passes.{posts_on}
+use Rattle.vectors.proofs.Chunks.{chunks_shaped}
+use Rattle.passes.specs.Lent.{vectors_in}
 use Rattle.passes.specs.Steps.{taken}
-use Rattle.recorded.proofs.Searches.{opened-flag, opened-other}
+use Rattle.recorded.proofs.Searches.{opened_flag, opened_other}
 use Rattle.recorded.proofs.Taken.{taken_none}
 use Rattle.recorded.proofs.raise_opened.Statement.{statement}
 use Rattle.recorded.proofs.raise_opened.Tie as tie
@@ -23,10 +23,10 @@ returns c =
     let t = c.before.before in
     let s = t.before.before.before.before in
     let a = s.args in
-    let E = recordingBy a.records.now a.counts a.levels.now in
-    let X = vectorsIn a.records.now a.counts a.v.now in
-    let none = opened-other E a.e (λ q. c.if1.true (ap (λ (v : Event). v.kind) t.event-at.ensures ∙ q)) in
-    sym (ap (λ (l : List ℕ). taken a.counts X l a.e) none ∙ taken_none a.counts X a.e (chunks-shaped (size E) a.counts.tasks a.v.now s.requires.1) s.requires.2)
+    let E = recording_by a.records.now a.counts a.levels.now in
+    let X = vectors_in a.records.now a.counts a.v.now in
+    let none = opened_other E a.e (λ q. c.if1.true (ap (λ (v : Event). v.kind) t.event_at.ensures ∙ q)) in
+    sym (ap (λ (l : List ℕ). taken a.counts X l a.e) none ∙ taken_none a.counts X a.e (chunks_shaped (size E) a.counts.tasks a.v.now s.requires.1) s.requires.2)
 
 -- a flag wait
 module _ (c : tie.Else1) where
@@ -37,25 +37,25 @@ module _ (c : tie.Else1) where
   s = t.before.before.before.before
 
   abbrev E : Recording
-  E = recordingBy s.args.records.now s.args.counts s.args.levels.now
+  E = recording_by s.args.records.now s.args.counts s.args.levels.now
 
-  kind : kind_of E s.args.e ≡ flagWait
-  kind = sym (ap (λ (v : Event). v.kind) t.event-at.ensures) ∙ c.if1.false
+  kind : kind_of E s.args.e ≡ flag_wait
+  kind = sym (ap (λ (v : Event). v.kind) t.event_at.ensures) ∙ c.if1.false
 
 follow-posts-requires : tie.Need-follow-posts-requires
 follow-posts-requires c κs =
     let d = c.before.before in
     let p = (s d).requires in
-    (p.0, p.1, p.2, p.3, omega (arith, ap (λ (v : Event). v.object) (t d).event-at.ensures, p.0.flag-waits (s d).args.e p.2 (kind d)))
+    (p.0, p.1, p.2, p.3, omega (arith, ap (λ (v : Event). v.object) (t d).event_at.ensures, p.0.flag_waits (s d).args.e p.2 (kind d)))
 
 returns-2 : tie.Need-returns-2
 returns-2 c =
     let d = c.before.before.before.before.before in
     let a = (s d).args in
-    let X = vectorsIn a.records.now a.counts a.v.now in
-    let followed = ap₂ (λ (v : Event) (n : ℕ). take n (postsOn (E d).events v.object)) (t d).event-at.ensures
-    (c.before.before.before.before.post-of.ensures ∙ ap (λ (v : Event). post_of (E d).levels v.object) (t d).event-at.ensures)
-    ∙ opened-flag (E d) a.e (kind d) in
+    let X = vectors_in a.records.now a.counts a.v.now in
+    let followed = ap₂ (λ (v : Event) (n : ℕ). take n (posts_on (E d).events v.object)) (t d).event_at.ensures
+    (c.before.before.before.before.post-of.ensures ∙ ap (λ (v : Event). post_of (E d).levels v.object) (t d).event_at.ensures)
+    ∙ opened_flag (E d) a.e (kind d) in
     c.before.before.follow-posts.ensures ∙ ap (λ (l : List ℕ). taken a.counts X l a.e) followed
 
 pub raise-opened-spec : {M : Type 1} → statement M

@@ -7,7 +7,7 @@ use native.Mathlib.Omega.{arith}
 use borrow.Author.Rules.{rules}
 use lib.ListN.{length, take, drop}
 use lib.Seq.{length-take-le}
-use Rattle.model.specs.File.{eventsOf}
+use Rattle.model.specs.File.{events_of}
 use Rattle.recorded.proofs.record.Statement.{statement}
 use Rattle.recorded.proofs.record.Tie as tie
 
@@ -16,9 +16,9 @@ module _ (s : tie.Start) where
   abbrev numbers : ℕ
   numbers = length s.args.records.now / 4 * s.args.counts.tasks
 
-  as_many : numbers ≡ length (eventsOf s.args.records.now) * s.args.counts.tasks
+  as_many : numbers ≡ length (events_of s.args.records.now) * s.args.counts.tasks
   as_many =
-      let n : length s.args.records.now / 4 ≡ length (eventsOf s.args.records.now) = omega (arith, s.pre.0.placed.records.whole) in
+      let n : length s.args.records.now / 4 ≡ length (events_of s.args.records.now) = omega (arith, s.pre.0.placed.records.whole) in
       ap (λ (n : ℕ). n * s.args.counts.tasks) n
 
   fits : numbers ≤ length s.args.v.now

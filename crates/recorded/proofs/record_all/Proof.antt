@@ -4,24 +4,24 @@ use mathlib.Core.Path.{◌≡◌, ap, ◌∙◌}
 use Prim.Native.Nat.{◌-◌, ◌≤◌}
 use native.Mathlib.Omega.{arith}
 use Rattle.model.specs.Recording.{size}
-use Rattle.model.specs.File.{levelsBy, recordingBy}
+use Rattle.model.specs.File.{levels_by, recording_by}
 use Rattle.model.specs.Vectors.{flat, start}
-use Rattle.model.specs.Recorded.{recordedTo}
-use Rattle.model.proofs.Climb.{start-shaped}
+use Rattle.model.specs.Recorded.{recorded_to}
+use Rattle.model.proofs.Climb.{start_shaped}
 use Rattle.vectors.specs.Rows.{chunks}
-use Rattle.vectors.proofs.Chunks.{chunks-flat}
-use Rattle.passes.specs.Lent.{vectorsIn, Fitting}
+use Rattle.vectors.proofs.Chunks.{chunks_flat}
+use Rattle.passes.specs.Lent.{vectors_in, Fitting}
 use Rattle.recorded.specs.Matching.{Matching}
-use Rattle.model.proofs.Levels.{start-levels}
+use Rattle.model.proofs.Levels.{start_levels}
 use Rattle.recorded.proofs.Matching.{start as first-match}
 use Rattle.passes.proofs.Runs.{numbers_of}
-use Rattle.recorded.proofs.Runs.{record-start, record-next, record-end}
+use Rattle.recorded.proofs.Runs.{record_start, record_next, record_end}
 use Rattle.recorded.proofs.record_all.Statement.{statement}
 use Rattle.recorded.proofs.record_all.Tie as tie
 
 abbrev invariant-loop : tie.invariant-loop
 invariant-loop records counts levels positions sources chains v₀ n unmatched₀ hand₀ e₀ v unmatched hand e =
-    (e ≤ n) × Fitting records counts v × (vectorsIn records counts v ≡ recordedTo (recordingBy records counts levels) e) × Matching records (levelsBy counts levels) e unmatched hand
+    (e ≤ n) × Fitting records counts v × (vectors_in records counts v ≡ recorded_to (recording_by records counts levels) e) × Matching records (levels_by counts levels) e unmatched hand
 
 abbrev decreases-loop : tie.decreases-loop
 decreases-loop records counts levels positions sources chains v₀ n unmatched₀ hand₀ e₀ v unmatched hand e = n - e
@@ -31,10 +31,10 @@ loop-holds c =
     let s = c.before.before.before.before.before.before.before.before.before in
     let a = s.args in
     let f = c.before.before.before.start in
-    let E = recordingBy a.records.now a.counts a.levels.now in (
+    let E = recording_by a.records.now a.counts a.levels.now in (
       omega arith,
       f.auto.1.1.1.0 ∙ s.requires.1,
-      record-start E _ (ap (chunks (size E) a.counts.tasks) (f.ensures ∙ ap flat (start-levels a.records.now a.counts a.levels.now)) ∙ chunks-flat (size E) a.counts.tasks (start E) (start-shaped E)),
+      record_start E _ (ap (chunks (size E) a.counts.tasks) (f.ensures ∙ ap flat (start_levels a.records.now a.counts a.levels.now)) ∙ chunks_flat (size E) a.counts.tasks (start E) (start_shaped E)),
       first-match a.records.now E.levels _ s.requires.0.linked,
     )
 
@@ -49,17 +49,17 @@ loop-again : tie.Need-loop-preserved invariant-loop decreases-loop
 loop-again c =
     let a = c.before.before.before.before.before.before.before.before.before.before.before.before.before.before.before.before.before.args in
     let k = c.before.before.before.before.before.before.before.loop in
-    let f = c.before.before.record-event in
-    (omega arith, f.auto.1.1.1.1.1.1.1.1.0 ∙ k.invariant.1, record-next (recordingBy a.records.now a.counts a.levels.now) _ _ k.e k.invariant.2 f.ensures.0, f.ensures.1)
+    let f = c.before.before.record_event in
+    (omega arith, f.auto.1.1.1.1.1.1.1.1.0 ∙ k.invariant.1, record_next (recording_by a.records.now a.counts a.levels.now) _ _ k.e k.invariant.2 f.ensures.0, f.ensures.1)
 
 returns : tie.Need-returns invariant-loop decreases-loop
 returns c =
     let s = c.before.before.before.before.before.before.before.before.before.before.before in
     let a = s.args in
     let k = c.before.loop in
-    let E = recordingBy a.records.now a.counts a.levels.now in
+    let E = recording_by a.records.now a.counts a.levels.now in
     let q : k.e ≡ size E = omega (arith, s.requires.0.placed.records.whole) in
-    numbers_of (size E) a.counts.tasks k.v _ k.invariant.1 (record-end E _ k.e q k.invariant.2)
+    numbers_of (size E) a.counts.tasks k.v _ k.invariant.1 (record_end E _ k.e q k.invariant.2)
 
 pub record-all-spec : {M : Type 1} → statement M
 record-all-spec =

@@ -7,27 +7,27 @@ use lib.ListN.{length}
 use Rattle.model.specs.declared.Found.{Found}
 use Rattle.model.specs.Numbers.{found}
 use Rattle.model.specs.Recording.{size}
-use Rattle.model.specs.File.{recordingBy}
+use Rattle.model.specs.File.{recording_by}
 use Rattle.vectors.specs.Rows.{chunks}
-use Rattle.vectors.proofs.Chunks.{next_row, chunks-shaped}
+use Rattle.vectors.proofs.Chunks.{next_row, chunks_shaped}
 use Rattle.passes.specs.Steps.{taken}
-use Rattle.model.proofs.Levels.{step-one-levels}
-use Rattle.passes.proofs.Taken.{inside, taken-found}
-use Rattle.recorded.proofs.Taken.{record-event}
+use Rattle.model.proofs.Levels.{step_one_levels}
+use Rattle.passes.proofs.Taken.{inside, taken_found}
+use Rattle.recorded.proofs.Taken.{record_event}
 use Rattle.recorded.proofs.record_event.Statement.{statement}
 use Rattle.recorded.proofs.record_event.Tie as tie
 
 raise-found-requires : tie.Need-raise-found-requires
 raise-found-requires c κs =
     let s = c.before.before.before.before.before.before.before.before.before.before.before.before in
-    let E = recordingBy s.args.records.now s.args.counts s.args.levels.now in
+    let E = recording_by s.args.records.now s.args.counts s.args.levels.now in
     let m = s.args.counts.tasks in
-    let k = c.before.before.before.before.before.before.before.step-one.auto.1.1.1.1.0 ∙ s.requires.0.1 in
+    let k = c.before.before.before.before.before.before.before.step_one.auto.1.1.1.1.0 ∙ s.requires.0.1 in
     (omega (arith, next_row s.args.e (size E) m s.requires.0.2), inside m (size E) _ c.before.before.take-signal.result k c.before.before.take-signal.ensures.0.1)
 
 -- the numbers after the matched signal
 long : (c : tie.After-raise-found) → length c.raise-found.new.0 ≡ length c.before.before.before.before.before.before.before.before.before.before.before.before.before.args.v.now
-long c = c.raise-found.auto.0 ∙ c.before.before.before.before.before.before.before.before.step-one.auto.1.1.1.1.0
+long c = c.raise-found.auto.0 ∙ c.before.before.before.before.before.before.before.before.step_one.auto.1.1.1.1.0
 
 returns : tie.Need-returns
 returns c =
@@ -35,16 +35,16 @@ returns c =
     let s = c.before.before.before.before.before.before.before.before.before.before.before.before.before.before.before.before.before.before.before in
     let r = s.args.records.now in
     let a = s.args.counts in
-    let E = recordingBy r a s.args.levels.now in
-    let x = c.before.before.before.before.before.before.before.before.before.before.before.before.before.before.step-one in
+    let E = recording_by r a s.args.levels.now in
+    let x = c.before.before.before.before.before.before.before.before.before.before.before.before.before.before.step_one in
     let m = c.before.before.before.before.before.before.before.before.before.take-signal in
     let l = x.new.1.1.1.1.0 in
     let k = x.auto.1.1.1.1.0 ∙ s.requires.0.1 in
     let z = ap (chunks (size E) a.tasks) g.raise-found.ensures.0
-    ∙ taken-found a (size E) l s.args.e m.result k s.requires.0.2
+    ∙ taken_found a (size E) l s.args.e m.result k s.requires.0.2
     ∙ ap (λ (f : Found). taken a (chunks (size E) a.tasks l) (found f) s.args.e) m.ensures.0.0 in (
-      record-event E _ _ _ _ s.args.e (chunks-shaped (size E) a.tasks s.args.v.now s.requires.0.1) s.requires.0.2
-          (x.ensures.0 ∙ step-one-levels r a s.args.levels.now _ s.args.e) z c.before.before.raise-opened.ensures,
+      record_event E _ _ _ _ s.args.e (chunks_shaped (size E) a.tasks s.args.v.now s.requires.0.1) s.requires.0.2
+          (x.ensures.0 ∙ step_one_levels r a s.args.levels.now _ s.args.e) z c.before.before.raise-opened.ensures,
       m.ensures.1,
     )
 

@@ -7,20 +7,20 @@ use native.Mathlib.Omega.{arith}
 use lib.ListN.{length}
 use lib.Seq.{sets}
 use Rattle.model.specs.Numbers.{each, picked}
-use Rattle.model.specs.File.{eventsOf}
-use Rattle.events.proofs.Order.{picked-room}
-use Rattle.passes.proofs.Waits.{picked-miss}
-use Rattle.reversed.specs.Lent.{onSide}
-use Rattle.reversed.proofs.Sides.{put-hit}
+use Rattle.model.specs.File.{events_of}
+use Rattle.events.proofs.Order.{picked_room}
+use Rattle.passes.proofs.Waits.{picked_miss}
+use Rattle.reversed.specs.Lent.{on_side}
+use Rattle.reversed.proofs.Sides.{put_hit}
 use Rattle.reversed.proofs.put_side.Statement.{statement}
 use Rattle.reversed.proofs.put_side.Tie as tie
 
 abbrev invariant-loop : tie.invariant-loop
 invariant-loop records counts positions v x first order₀ at n next₀ a₀ order next a =
-    (a ≤ length (eventsOf records))
-    × (n ≡ length (eventsOf records))
-    × (order ≡ sets order₀ at (picked (onSide records counts v x first) a))
-    × (next ≡ at + length (picked (onSide records counts v x first) a))
+    (a ≤ length (events_of records))
+    × (n ≡ length (events_of records))
+    × (order ≡ sets order₀ at (picked (on_side records counts v x first) a))
+    × (next ≡ at + length (picked (on_side records counts v x first) a))
 
 abbrev decreases-loop : tie.decreases-loop
 decreases-loop records counts positions v x first order₀ at n next₀ a₀ order next a = n - a
@@ -38,35 +38,35 @@ module _ (c : tie.Then1 invariant-loop decreases-loop) where
   s = k.before.before.before.before
 
   abbrev p : ℕ → Bool
-  p = onSide s.args.records.now s.args.counts s.args.v.now s.args.x s.args.first
+  p = on_side s.args.records.now s.args.counts s.args.v.now s.args.x s.args.first
 
   passes : p k.loop.a ≡ true
   passes = sym c.before.on-side.ensures ∙ c.if1.true
 
   -- there is room for it
   room : k.loop.next < 1024
-  room = omega (arith, k.loop.inv.3, s.pre.1, picked-room p k.loop.a (length (eventsOf s.args.records.now)) (omega (arith, k.loop.inv.1)) passes)
+  room = omega (arith, k.loop.inv.3, s.pre.1, picked_room p k.loop.a (length (events_of s.args.records.now)) (omega (arith, k.loop.inv.1)) passes)
 
 loop-again : tie.Need-loop-preserved invariant-loop decreases-loop
 loop-again c =
     let k = c.before.before.before.loop in
     let a = c.before.before.before.before.before.before.before.args in
-    let p = onSide a.records.now a.counts a.v.now a.x a.first in
+    let p = on_side a.records.now a.counts a.v.now a.x a.first in
     let t = c.before.on-side.ensures in
     ⊎_elim
     (λ w.
-    let (put, next) = put-hit p k.a (sym t ∙ w.0.taken) a.order.now k.order a.at k.next k.invariant.2 k.invariant.3 in
+    let (put, next) = put_hit p k.a (sym t ∙ w.0.taken) a.order.now k.order a.at k.next k.invariant.2 k.invariant.3 in
     rw (w.1, w.2) (omega (arith, k.invariant.1), k.invariant.1, put, next))
     (λ w.
-    rw (w.1, w.2, picked-miss p k.a (sym t ∙ w.0.left)) (omega (arith, k.invariant.1), k.invariant.1, k.invariant.2, k.invariant.3))
+    rw (w.1, w.2, picked_miss p k.a (sym t ∙ w.0.left)) (omega (arith, k.invariant.1), k.invariant.1, k.invariant.2, k.invariant.3))
     c.if1.branch
 
 returns : tie.Need-returns invariant-loop decreases-loop
 returns c =
     let k = c.before.loop in
     let a = c.before.before.before.before.before.args in
-    let p = onSide a.records.now a.counts a.v.now a.x a.first in
-    let q : k.a ≡ length (eventsOf a.records.now) = omega (arith, k.invariant.0, k.invariant.1) in
+    let p = on_side a.records.now a.counts a.v.now a.x a.first in
+    let q : k.a ≡ length (events_of a.records.now) = omega (arith, k.invariant.0, k.invariant.1) in
     let all = ap (picked p) q in
     (k.invariant.2 ∙ ap (sets a.order.now a.at) all, k.invariant.3 ∙ ap (λ l. a.at + length l) all)
 

@@ -4,8 +4,8 @@ use mathlib.Core.Path.{sym, ◌∙◌}
 use borrow.Author.Rules.{rules}
 use Rattle.passes.specs.Lent.{Numbered}
 use Rattle.work.specs.Lent.{Ready, Roomy}
-use Rattle.work.proofs.Accepted.{inside, levels-inside, few-levels, ready}
-use Rattle.work.proofs.Questions.{asked-passed}
+use Rattle.work.proofs.Accepted.{inside, levels_inside, few_levels, ready}
+use Rattle.work.proofs.Questions.{asked_passed}
 use Rattle.reversed.proofs.Answers.{refused, written-forward}
 use Rattle.reversed.proofs.reverse_read.Statement.{statement}
 use Rattle.reversed.proofs.reverse_read.Tie as tie
@@ -30,14 +30,14 @@ module _ (c : tie.After-enum-told) where
   l = k.before.before.before.before
 
   passed : (Numbered (r l).records-of.result.now (s l).args.chosen × Numbered (r l).records-of.result.now (s l).args.other) × Roomy (r l).records-of.result.now (s l).args.trailer.counts (s l).args.work.now
-  passed = asked-passed _ _ _ _ _ _ (sym k.fill-asked.ensures.0 ∙ c.enum_told.given.1)
+  passed = asked_passed _ _ _ _ _ _ (sym k.fill-asked.ensures.0 ∙ c.enum_told.given.1)
 
 write-forward-requires : tie.Need-write-forward-requires
 write-forward-requires c κs =
     let v = c.before.before in
     let t = v.before.before in
     let a = (s (l t)).args in (
-      (record { records = (all-ready (l t)).records; kept = (k t).before.before.before.positions.ensures }, v.Recorded-part.ensures.1, few-levels a.file.now a.trailer (s (l t)).pre _ (r (l t)).records-of.ensures _ (l t).levels-of.ensures),
+      (record { records = (all-ready (l t)).records; kept = (k t).before.before.before.positions.ensures }, v.Recorded-part.ensures.1, few_levels a.file.now a.trailer (s (l t)).pre _ (r (l t)).records-of.ensures _ (l t).levels-of.ensures),
       (passed t).0,
     )
 
@@ -63,7 +63,7 @@ reverse-read-spec =
     tie.close
     (tie.spec
     (λ c κs. inside _ _ c.before.before.before.requires)
-    (λ c κs. levels-inside _ _ c.before.before.before.before.before.requires)
+    (λ c κs. levels_inside _ _ c.before.before.before.before.before.requires)
     (λ c κs. let p = (all-ready c).records in omega (arith, p.whole, p.few))
     (λ c κs. let p = c.before.before in (all-ready p.before, p.positions.ensures))
     (λ c. search rules)

@@ -7,10 +7,10 @@ use native.Mathlib.Omega.{arith}
 use borrow.Author.Rules.{rules}
 use borrow.Author.Tests.{not-true, not-false}
 use lib.ListN.{length, take}
-use Rattle.model.specs.File.{eventsOf}
+use Rattle.model.specs.File.{events_of}
 use Rattle.model.specs.Vectors.{Vectors, unordered}
-use Rattle.passes.specs.Lent.{vectorsIn}
-use Rattle.reversed.proofs.Forward.{ordered-pair, no_room, order-length, order-picks, written}
+use Rattle.passes.specs.Lent.{vectors_in}
+use Rattle.reversed.proofs.Forward.{ordered_pair, no_room, order_length, order_picks, written}
 use Rattle.reversed.proofs.write_forward.Statement.{statement}
 use Rattle.reversed.proofs.write_forward.Tie as tie
 
@@ -19,20 +19,20 @@ module _ (e : tie.Else1) where
   abbrev s : tie.Start
   s = e.before.before.before.before.before.before.before
 
-  neither : unordered (eventsOf s.args.records.now) (vectorsIn s.args.records.now s.args.counts s.args.recorded.now) s.args.chosen s.args.other ≡ true
+  neither : unordered (events_of s.args.records.now) (vectors_in s.args.records.now s.args.counts s.args.recorded.now) s.args.chosen s.args.other ≡ true
   neither = sym e.before.unordered.ensures ∙ not-false _ e.if1.left
 
 returns : tie.Need-returns
 returns c =
     let a = c.before.before.before.before.before.before.before.args in
-    ordered-pair a.records.now a.counts a.levels.now (vectorsIn a.records.now a.counts a.recorded.now) a.chosen a.other a.out.now
+    ordered_pair a.records.now a.counts a.levels.now (vectors_in a.records.now a.counts a.recorded.now) a.chosen a.other a.out.now
     (sym c.before.unordered.ensures ∙ not-true _ c.if1.true)
 
 returns-2 : tie.Need-returns-2
 returns-2 c =
     let e = c.before in
     let a = (s e).args in
-    no_room a.records.now a.counts a.levels.now (vectorsIn a.records.now a.counts a.recorded.now) a.chosen a.other a.out.now
+    no_room a.records.now a.counts a.levels.now (vectors_in a.records.now a.counts a.recorded.now) a.chosen a.other a.out.now
     (neither e) (omega (arith, c.if2.true))
 
 -- the order that brings the chosen event forward
@@ -44,21 +44,21 @@ module _ (b : tie.After-bring-forward) where
   records = (s e).args.records.now
 
   abbrev X : Vectors
-  X = vectorsIn records (s e).args.counts (s e).args.recorded.now
+  X = vectors_in records (s e).args.counts (s e).args.recorded.now
 
   abbrev order : List ℕ
   order = take (length records / 4) b.bring-forward.result
 
-  whole : length records ≡ 4 * length (eventsOf records)
+  whole : length records ≡ 4 * length (events_of records)
   whole = (s e).pre.0.0.records.whole
 
-  as_many : length order ≡ length (eventsOf records)
-  as_many = order-length records whole X (s e).args.chosen order b.bring-forward.ensures
+  as_many : length order ≡ length (events_of records)
+  as_many = order_length records whole X (s e).args.chosen order b.bring-forward.ensures
 
 put-picked-requires : tie.Need-put-picked-requires
 put-picked-requires c κs =
     let b = c.before.before in (
-      order-picks (records b) (whole b) (X b) (s (e b)).args.chosen (order b) b.bring-forward.ensures,
+      order_picks (records b) (whole b) (X b) (s (e b)).args.chosen (order b) b.bring-forward.ensures,
       omega (arith, as_many b, whole b),
     )
 

@@ -1,4 +1,4 @@
--- `rules::join_kept` meets its contract. Each return rewrites the definition by the tests and the calls that led to it. Assumes nothing.
+-- `rules::join_kept_lem` meets its contract. Each return rewrites the definition by the tests and the calls that led to it. Assumes nothing.
 use mathlib.Core.Path.{refl, ap}
 use native.Mathlib.Omega.{arith}
 use borrow.Author.Rules.{rules}

@@ -2,7 +2,7 @@
 use mathlib.Core.Path.{refl}
 use native.Mathlib.Omega.{arith}
 use borrow.Author.Rules.{rules}
-use Rattle.rules.specs.Running.{notedOn, notedOwn}
+use Rattle.rules.specs.Running.{noted_on, noted_own}
 use Rattle.rules.proofs.Running.{low}
 use Rattle.rules.proofs.note.Statement.{statement}
 use Rattle.rules.proofs.note.Tie as tie
@@ -17,11 +17,11 @@ element-write-on : tie.Need-element-write-on
 element-write-on c = let s = c.before.before.before.before.before.before.before.before in let k = c.before.before.before.if1.true in omega (arith, low s.args.v.kind k, s.requires.0.object k)
 
 returns : tie.Need-returns
-unfolding notedOn notedOwn
+unfolding noted_on noted_own
 returns c = (rw c.before.before.before.if1.true, refl)
 
 returns-2 : tie.Need-returns-2
-unfolding notedOn notedOwn
+unfolding noted_on noted_own
 returns-2 c = (rw c.if1.false, refl)
 
 pub note-spec : {M : Type 1} → statement M

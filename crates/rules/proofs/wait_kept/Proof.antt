@@ -7,15 +7,15 @@ use borrow.Author.Rules.{rules}
 use borrow.Author.Tests.{eq-eqb, ne_eqb}
 use lib.Dec.{ltb}
 use Rattle.model.specs.declared.Event.{Event}
-use Rattle.model.specs.Recording.{waitKept}
-use Rattle.model.specs.File.{levelsBy}
+use Rattle.model.specs.Recording.{wait_kept}
+use Rattle.model.specs.File.{levels_by}
 use Rattle.rules.specs.Running.{counted, Running}
-use Rattle.rules.proofs.Laws.{by-signals, by-start}
+use Rattle.rules.proofs.Laws.{by_signals, by_start}
 use Rattle.rules.proofs.wait_kept.Statement.{statement}
 use Rattle.rules.proofs.wait_kept.Tie as tie
 
 returns : tie.Need-returns
-unfolding waitKept
+unfolding wait_kept
 returns c before own run = simp (ne_eqb _ _ c.if1.true)
 
 count-on-requires : tie.Need-count-on-requires
@@ -31,8 +31,8 @@ module _ (c : tie.After-count-on2) where
 
   at-wait : (before : List Event) (own : List ℕ) → Running before s.args.on.now own → (b : Bool)
       → b ≡ ltb c.count-on2.result (c.before.before.start_of_lem.result + c.before.count-on.result)
-      → b ≡ waitKept (levelsBy s.args.counts s.args.levels.now) before s.args.v
-  unfolding waitKept
+      → b ≡ wait_kept (levels_by s.args.counts s.args.levels.now) before s.args.v
+  unfolding wait_kept
   at-wait before own run b p =
       simp (
         eq-eqb _ _ c.before.before.before.if1.false,
@@ -42,10 +42,10 @@ module _ (c : tie.After-count-on2) where
       ) p
 
 returns-2 : tie.Need-returns-2
-returns-2 c before own run = at-wait c.before before own run _ (by-signals _ _ _ c.if2.true)
+returns-2 c before own run = at-wait c.before before own run _ (by_signals _ _ _ c.if2.true)
 
 returns-3 : tie.Need-returns-3
-returns-3 c before own run = at-wait c.before before own run _ (by-start _ _ _ c.if2.false)
+returns-3 c before own run = at-wait c.before before own run _ (by_start _ _ _ c.if2.false)
 
 pub wait-kept-spec : {M : Type 1} → statement M
 wait-kept-spec =

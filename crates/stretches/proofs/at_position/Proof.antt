@@ -8,41 +8,41 @@ use lib.Dec.{eqb}
 use lib.ListN.{length}
 use Rattle.model.specs.declared.Found.{Found}
 use Rattle.model.specs.Numbers.{last_of}
-use Rattle.model.specs.Recording.{ofTask, eventIn}
-use Rattle.model.specs.File.{eventsOf}
+use Rattle.model.specs.Recording.{of_task, event_in}
+use Rattle.model.specs.File.{events_of}
 use Rattle.model.specs.Vectors.{position}
-use Rattle.model.specs.Together.{atPosition}
+use Rattle.model.specs.Together.{at_position}
 use Rattle.events.specs.Kept.{Below}
-use Rattle.events.proofs.Laws.{events-length, last_none, last-here, last-lower}
-use Rattle.events.proofs.Kept.{all-below}
+use Rattle.events.proofs.Laws.{events_length, last_none, last_here, last_lower}
+use Rattle.events.proofs.Kept.{all_below}
 use Rattle.stretches.proofs.at_position.Statement.{statement}
 use Rattle.stretches.proofs.at_position.Tie as tie
 
 -- the test
 abbrev there : List ℕ → ℕ → ℕ → ℕ → Bool
-there s t p e = ofTask t (eventIn (eventsOf s) e) && eqb (position (eventsOf s) e) p
+there s t p e = of_task t (event_in (events_of s) e) && eqb (position (events_of s) e) p
 
 abbrev invariant-loop : tie.invariant-loop
-invariant-loop records positions task p i₀ i = (i ≤ length records / 4) × (last_of (there records task p) i ≡ atPosition (eventsOf records) task p)
+invariant-loop records positions task p i₀ i = (i ≤ length records / 4) × (last_of (there records task p) i ≡ at_position (events_of records) task p)
 
 abbrev decreases-loop : tie.decreases-loop
 decreases-loop records positions task p i₀ i = i
 
-answered : (s : List ℕ) (t p : ℕ) (f : Found) → f ≡ atPosition (eventsOf s) t p → (f ≡ atPosition (eventsOf s) t p) × Below (length s / 4) f
-unfolding atPosition
-answered s t p f q = (q, all-below s (there s t p) f q)
+answered : (s : List ℕ) (t p : ℕ) (f : Found) → f ≡ at_position (events_of s) t p → (f ≡ at_position (events_of s) t p) × Below (length s / 4) f
+unfolding at_position
+answered s t p f q = (q, all_below s (there s t p) f q)
 
 loop-holds : tie.Need-loop-init invariant-loop decreases-loop
-unfolding atPosition
-loop-holds c = (omega arith, ap (last_of _) (sym (events-length c.before.before.args.records.now)))
+unfolding at_position
+loop-holds c = (omega arith, ap (last_of _) (sym (events_length c.before.before.args.records.now)))
 
 returns : tie.Need-returns invariant-loop decreases-loop
-returns c = let k = c.before.before.before.loop in answered _ _ _ _ (last-here _ k.i _ _ (omega arith) c.before.is_at.ensures c.if1.true ∙ k.invariant.1)
+returns c = let k = c.before.before.before.loop in answered _ _ _ _ (last_here _ k.i _ _ (omega arith) c.before.is_at.ensures c.if1.true ∙ k.invariant.1)
 
 loop-again : tie.Need-loop-preserved invariant-loop decreases-loop
 loop-again c =
     let k = c.before.before.before.loop in
-    (omega arith, last-lower _ k.i _ _ (omega arith) c.before.is_at.ensures c.if1.false ∙ k.invariant.1)
+    (omega arith, last_lower _ k.i _ _ (omega arith) c.before.is_at.ensures c.if1.false ∙ k.invariant.1)
 
 returns-2 : tie.Need-returns-2 invariant-loop decreases-loop
 returns-2 c = answered _ _ _ _ (last_none _ c.before.loop.i (omega arith) ∙ c.before.loop.invariant.1)

@@ -5,14 +5,14 @@ use native.Mathlib.Omega.{arith}
 use borrow.Author.Rules.{rules}
 use borrow.Author.Tests.{not-true, not-false}
 use Rattle.model.specs.Recording.{Recording}
-use Rattle.model.specs.File.{eventsOf, recordingBy}
+use Rattle.model.specs.File.{events_of, recording_by}
 use Rattle.model.specs.Vectors.{Vectors}
-use Rattle.model.specs.Analysing.{workFits}
+use Rattle.model.specs.Analysing.{work_fits}
 use Rattle.work.specs.Lent.{Ready}
-use Rattle.work.proofs.Accepted.{inside, levels-inside, ready}
+use Rattle.work.proofs.Accepted.{inside, levels_inside, ready}
 use Rattle.work.proofs.Parts.{roomy}
-use Rattle.stretches.specs.Stretches.{twoStretches}
-use Rattle.stretches.specs.Lent.{leadByEnds}
+use Rattle.stretches.specs.Stretches.{two_stretches}
+use Rattle.stretches.specs.Lent.{lead_by_ends}
 use Rattle.stretches.proofs.Answers.{two-levels, refused-stretch, refused-work, answered}
 use Rattle.stretches.proofs.compare_read.Statement.{statement}
 use Rattle.stretches.proofs.compare_read.Tie as tie
@@ -29,14 +29,14 @@ module _ (l : tie.After-levels-of) where
   all-ready = ready s.args.file.now s.args.trailer s.pre _ r.records-of.ensures _ l.levels-of.ensures
 
   abbrev recording : Recording
-  recording = recordingBy r.records-of.result.now s.args.trailer.counts l.levels-of.result.now
+  recording = recording_by r.records-of.result.now s.args.trailer.counts l.levels-of.result.now
 
 -- they are two stretches
 module _ (t : tie.Else1) where
   abbrev l : tie.After-levels-of
   l = t.before.before.before.before
 
-  two : twoStretches (recording l) (s l).args.one (s l).args.other ≡ true
+  two : two_stretches (recording l) (s l).args.one (s l).args.other ≡ true
   two = sym (two-levels _ _ l.levels-of.result.now _ _) ∙ (sym t.before.two-stretches.ensures ∙ not-false _ t.if1.left)
 
 -- and the work numbers have room
@@ -44,7 +44,7 @@ module _ (u : tie.Else2) where
   abbrev t : tie.Else1
   t = u.before.before.before
 
-  fits : workFits (recording (l t)) (s (l t)).args.work.now ≡ true
+  fits : work_fits (recording (l t)) (s (l t)).args.work.now ≡ true
   fits = sym u.before.work-fits.ensures ∙ not-false _ u.if2.left
 
 returns : tie.Need-returns
@@ -69,14 +69,14 @@ returns-3 c =
     let a = (s (l (t u))).args in
     answered a.file.now a.trailer (s (l (t u))).pre _ (r (l (t u))).records-of.ensures _ (l (t u)).levels-of.ensures a.one a.other a.budget a.work.now
     (two (t u)) (fits u) _ k.fill.ensures.1 _
-    (c.lead-by-ends.ensures ∙ ap (λ (X : Vectors). leadByEnds (eventsOf (r (l (t u))).records-of.result.now) X a.one a.other) p.safe-part.ensures.0)
+    (c.lead-by-ends.ensures ∙ ap (λ (X : Vectors). lead_by_ends (events_of (r (l (t u))).records-of.result.now) X a.one a.other) p.safe-part.ensures.0)
 
 pub compare-read-spec : {M : Type 1} → statement M
 compare-read-spec =
     tie.close
     (tie.spec
     (λ c κs. inside _ _ c.before.before.requires)
-    (λ c κs. levels-inside _ _ c.before.before.before.before.requires)
+    (λ c κs. levels_inside _ _ c.before.before.before.before.requires)
     (λ c κs. let p = (all-ready c).records in omega (arith, p.whole, p.few))
     (λ c. search rules)
     (λ c κs. search rules)

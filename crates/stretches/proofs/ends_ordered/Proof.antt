@@ -7,7 +7,7 @@ use borrow.Author.Rules.{rules}
 use lib.ListN.{length}
 use Rattle.model.specs.declared.Found.{Found}
 use Rattle.events.specs.Kept.{Below}
-use Rattle.events.proofs.Laws.{events-length}
+use Rattle.events.proofs.Laws.{events_length}
 use Rattle.passes.specs.Lent.{Numbered}
 use Rattle.stretches.proofs.Answers.{ends_found}
 use Rattle.stretches.proofs.ends_ordered.Statement.{statement}
@@ -15,7 +15,7 @@ use Rattle.stretches.proofs.ends_ordered.Tie as tie
 
 -- what is found is an event
 numbered : (d : List ℕ) (f : Found) (a : ℕ) → Below (length d / 4) f → f ≡ Found.At a → Numbered d a
-numbered d f a h q = let k = subst (Below (length d / 4)) q h in omega (arith, k, events-length d)
+numbered d f a h q = let k = subst (Below (length d / 4)) q h in omega (arith, k, events_length d)
 
 ordered-requires : tie.Need-ordered-requires
 ordered-requires c κs =

@@ -1,8 +1,8 @@
 -- analyse_both meets its contract: where the first file is accepted the second is read, another's refusal is handed on. Assumes nothing.
 use mathlib.Core.Path.{sym, ◌∙◌}
 use borrow.Author.Rules.{rules}
-use Rattle.recording.proofs.Files.{refused-is}
-use Rattle.together.proofs.Answers.{refused-first}
+use Rattle.recording.proofs.Files.{refused_is}
+use Rattle.together.proofs.Answers.{refused_first}
 use Rattle.together.proofs.analyse_both.Statement.{statement}
 use Rattle.together.proofs.analyse_both.Tie as tie
 
@@ -14,7 +14,7 @@ returns c = let r = c.before.before.before.before.before.before.read-second.ensu
 
 returns-2 : tie.Need-returns-2
 returns-2 c =
-    let r = refused-first _ _ _ _ _ _ (refused-is _ _ (sym c.before.before.before.read.ensures ∙ c.before.r.given.1)) in
+    let r = refused_first _ _ _ _ _ _ (refused_is _ _ (sym c.before.before.before.read.ensures ∙ c.before.r.given.1)) in
     (r.answer, (r.first, (r.second, r.list)))
 
 pub analyse-both-spec : {M : Type 1} → statement M

@@ -4,12 +4,12 @@ use native.Mathlib.Omega.{arith}
 use borrow.Author.Rules.{rules}
 use Rattle.model.specs.declared.Check.{Check}
 use Rattle.model.specs.Recording.{Recording}
-use Rattle.model.specs.File.{recordingBy, recordingOf}
-use Rattle.model.specs.Together.{workAlike}
+use Rattle.model.specs.File.{recording_by, recording_of}
+use Rattle.model.specs.Together.{work_alike}
 use Rattle.model.specs.OneJob.{SameWork}
 use Rattle.model.proofs.Together.{together}
 use Rattle.work.specs.Lent.{Ready}
-use Rattle.work.proofs.Accepted.{passed, inside, levels-inside, the-recording, ready}
+use Rattle.work.proofs.Accepted.{passed, inside, levels_inside, the_recording, ready}
 use Rattle.together.proofs.Answers.{refused-differ, held_by}
 use Rattle.together.proofs.compare.Statement.{statement}
 use Rattle.together.proofs.compare.Tie as tie
@@ -20,16 +20,16 @@ module _ (l : tie.After-levels-of2) where
   s = l.before.before.before.before.before.before.before.before.before
 
   abbrev first : Recording
-  first = recordingBy l.before.before.before.records-of.result.now s.args.trailer.counts l.before.before.levels-of.result.now
+  first = recording_by l.before.before.before.records-of.result.now s.args.trailer.counts l.before.before.levels-of.result.now
 
   abbrev second : Recording
-  second = recordingBy l.before.records-of2.result.now s.args.other.counts l.levels-of2.result.now
+  second = recording_by l.before.records-of2.result.now s.args.other.counts l.levels-of2.result.now
 
-  first-is : first ≡ recordingOf s.args.first.now
-  first-is = the-recording s.args.first.now s.args.trailer s.pre.0 _ l.before.before.before.records-of.ensures _ l.before.before.levels-of.ensures
+  first-is : first ≡ recording_of s.args.first.now
+  first-is = the_recording s.args.first.now s.args.trailer s.pre.0 _ l.before.before.before.records-of.ensures _ l.before.before.levels-of.ensures
 
-  second_is : second ≡ recordingOf s.args.second.now
-  second_is = the-recording s.args.second.now s.args.other s.pre.1 _ l.before.records-of2.ensures _ l.levels-of2.ensures
+  second_is : second ≡ recording_of s.args.second.now
+  second_is = the_recording s.args.second.now s.args.other s.pre.1 _ l.before.records-of2.ensures _ l.levels-of2.ensures
 
   first-ready : Ready l.before.before.before.records-of.result.now s.args.trailer.counts
   first-ready = ready s.args.first.now s.args.trailer s.pre.0 _ l.before.before.before.records-of.ensures _ l.before.before.levels-of.ensures
@@ -42,11 +42,11 @@ module _ (w : tie.After-work-alike) where
   abbrev l : tie.After-levels-of2
   l = w.before.before.before
 
-  answer : (k : Check) → w.work-alike.result ≡ k → workAlike (recordingOf (s l).args.first.now) (recordingOf (s l).args.second.now) ≡ k
-  answer k e = sym (ap₂ workAlike (first-is l) (second_is l)) ∙ sym w.work-alike.ensures ∙ e
+  answer : (k : Check) → w.work_alike.result ≡ k → work_alike (recording_of (s l).args.first.now) (recording_of (s l).args.second.now) ≡ k
+  answer k e = sym (ap₂ work_alike (first-is l) (second_is l)) ∙ sym w.work_alike.ensures ∙ e
 
-  same-work : w.work-alike.result ≡ Check.Passed → SameWork (first l) (second l)
-  same-work e = subst₂ SameWork (sym (first-is l)) (sym (second_is l)) ((together.differs _ _ _ _ (s l).pre.0 (s l).pre.1).0 (answer Check.Passed e))
+  same_work : w.work_alike.result ≡ Check.Passed → SameWork (first l) (second l)
+  same_work e = subst₂ SameWork (sym (first-is l)) (sym (second_is l)) ((together.differs _ _ _ _ (s l).pre.0 (s l).pre.1).0 (answer Check.Passed e))
 
 work-alike-requires : tie.Need-work-alike-requires
 work-alike-requires c κs =
@@ -58,7 +58,7 @@ work-alike-requires c κs =
 hold-requires : tie.Need-hold-requires
 hold-requires c κs =
     let w = c.before.before.before.before.before in
-    record { first = first-ready (l w); second = second-ready (l w); same = same-work w c.before.before.before.enum_told.given.1 }
+    record { first = first-ready (l w); second = second-ready (l w); same = same_work w c.before.before.before.enum_told.given.1 }
 
 returns : tie.Need-returns
 returns c =
@@ -79,9 +79,9 @@ compare-spec =
     tie.close
     (tie.spec
     (λ c κs. inside _ _ c.before.before.before.before.before.requires.0)
-    (λ c κs. levels-inside _ _ c.before.before.before.before.before.before.requires.0)
+    (λ c κs. levels_inside _ _ c.before.before.before.before.before.before.requires.0)
     (λ c κs. inside _ _ c.before.before.before.before.before.before.before.requires.1)
-    (λ c κs. levels-inside _ _ c.before.before.before.before.before.before.before.before.requires.1)
+    (λ c κs. levels_inside _ _ c.before.before.before.before.before.before.before.before.requires.1)
     work-alike-requires
     (λ c. search rules)
     hold-requires

@@ -6,7 +6,7 @@ use native.Mathlib.Omega.{arith}
 use borrow.Author.Rules.{rules}
 use lib.ListN.{drop}
 use Rattle.model.specs.Numbers.{flat_map}
-use Rattle.model.specs.File.{eventsOf, recordingBy}
+use Rattle.model.specs.File.{events_of, recording_by}
 use Rattle.model.specs.Vectors.{Vectors}
 use Rattle.together.specs.Naming.{entries_at, named}
 use Rattle.together.proofs.name_all.Statement.{statement}
@@ -44,7 +44,7 @@ returns c =
       counterparts = k.ensures;
       entries =
           c.before.before.name-entries.ensures
-          ∙ ap (λ (R : Vectors). flat_map (named (eventsOf a.first.now) (recordingBy a.second.now a.counts []) R k.result) (entries_at a.list.now a.pairs) ++ drop (5 * a.pairs) a.list.now) r.Recorded-part.ensures.0;
+          ∙ ap (λ (R : Vectors). flat_map (named (events_of a.first.now) (recording_by a.second.now a.counts []) R k.result) (entries_at a.list.now a.pairs) ++ drop (5 * a.pairs) a.list.now) r.Recorded-part.ensures.0;
     }
 
 pub name-all-spec : {M : Type 1} → statement M

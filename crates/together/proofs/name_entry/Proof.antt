@@ -1,7 +1,7 @@
 -- name_entry meets its contract. Assumes nothing.
 use mathlib.Core.Path.{◌∙◌}
 use borrow.Author.Rules.{rules}
-use Rattle.together.proofs.Naming.{stored-named}
+use Rattle.together.proofs.Naming.{stored_named}
 use Rattle.together.proofs.name_entry.Statement.{statement}
 use Rattle.together.proofs.name_entry.Tie as tie
 
@@ -16,7 +16,7 @@ returns c =
     let s = k.before.before.before.before.before.before.before.before.before.before in
     let r = s.requires.0.placed in
     c.before.before.put-named.ensures
-    ∙ stored-named _ _ _ _ _ _ _ _ _ _ _ _ _ _ k.before.event-at.ensures k.event-at2.ensures (r.placed _ s.requires.1.0.0) (r.placed _ s.requires.1.0.1) k.before.before.either-mark.ensures
+    ∙ stored_named _ _ _ _ _ _ _ _ _ _ _ _ _ _ k.before.event_at.ensures k.event-at2.ensures (r.placed _ s.requires.1.0.0) (r.placed _ s.requires.1.0.1) k.before.before.either-mark.ensures
 
 pub name-entry-spec : {M : Type 1} → statement M
 name-entry-spec =

@@ -1,9 +1,9 @@
 -- read_second meets its contract: an accepted file is compared, another's refusal is handed on. Assumes nothing.
 use mathlib.Core.Path.{sym, ◌∙◌}
 use borrow.Author.Rules.{rules}
-use Rattle.recording.proofs.Files.{refused-is}
+use Rattle.recording.proofs.Files.{refused_is}
 use Rattle.work.proofs.Accepted.{passed}
-use Rattle.together.proofs.Answers.{refused-second}
+use Rattle.together.proofs.Answers.{refused_second}
 use Rattle.together.proofs.read_second.Statement.{statement}
 use Rattle.together.proofs.read_second.Tie as tie
 
@@ -16,7 +16,7 @@ returns-2 : tie.Need-returns-2
 returns-2 c =
     let r = c.before.before.before in
     let s = r.before.before.before.before.before.before in
-    refused-second _ _ _ _ _ (passed _ _ s.requires) _ (refused-is _ _ (sym r.read.ensures ∙ c.before.r.given.1))
+    refused_second _ _ _ _ _ (passed _ _ s.requires) _ (refused_is _ _ (sym r.read.ensures ∙ c.before.r.given.1))
 
 pub read-second-spec : {M : Type 1} → statement M
 read-second-spec =

@@ -8,7 +8,7 @@ use lib.Dec.{leb}
 use lib.ListN.{length, take, get_or}
 use Rattle.model.specs.Numbers.{bit, count}
 use Rattle.model.proofs.Tests.{le-leb, lt-leb}
-use Rattle.vectors.proofs.Stores.{count-start, count_next, count-whole}
+use Rattle.vectors.proofs.Stores.{count_start, count_next, count_whole}
 use Rattle.vectors.proofs.at_most.Statement.{statement}
 use Rattle.vectors.proofs.at_most.Tie as tie
 
@@ -19,7 +19,7 @@ abbrev decreases-loop : tie.decreases-loop
 decreases-loop s x n₀ i₀ n i = length s - i
 
 loop-holds : tie.Need-loop-init invariant-loop decreases-loop
-loop-holds c = omega (arith, count-start (λ y. leb y c.args.x) c.args.s.now)
+loop-holds c = omega (arith, count_start (λ y. leb y c.args.x) c.args.s.now)
 
 loop-again : tie.Need-loop-preserved invariant-loop decreases-loop
 loop-again c =
@@ -35,7 +35,7 @@ loop-again c =
 returns : tie.Need-returns invariant-loop decreases-loop
 returns c =
     let a = c.before.before.args in
-    omega (arith, count-whole (λ y. leb y a.x) a.s.now c.before.loop.i (omega arith))
+    omega (arith, count_whole (λ y. leb y a.x) a.s.now c.before.loop.i (omega arith))
 
 pub at-most-spec : {M : Type 1} → statement M
 at-most-spec =

@@ -8,8 +8,8 @@ use native.Mathlib.Omega.{arith}
 use lib.ListN.{length, get_or, drop, length-set}
 use lib.Seq.{sets}
 use Rattle.vectors.specs.Rows.{own_row}
-use Rattle.vectors.proofs.Chunks.{own-length, own_same, own-other}
-use Rattle.vectors.proofs.Stores.{sets-next, sets-all}
+use Rattle.vectors.proofs.Chunks.{own_length, own_same, own_other}
+use Rattle.vectors.proofs.Stores.{sets_next, sets_all}
 use Rattle.vectors.proofs.fill_row.Statement.{statement}
 use Rattle.vectors.proofs.fill_row.Tie as tie
 
@@ -27,22 +27,22 @@ loop-again c =
     let a = c.before.before.before.args in
     let k = c.before.before.loop in
     let u = own_row a.tasks a.own a.x in
-    let n = own-length a.tasks a.own a.x in
+    let n = own_length a.tasks a.own a.x in
     let h : k.t < a.tasks = omega arith in
     let y : c.if1.y ≡ get_or (own_row a.tasks a.own a.x) k.t 0 =
     ⊎_elim
     (λ w. w.1 ∙ sym (own_same a.tasks a.own a.x k.t h w.0.taken))
-    (λ w. w.1 ∙ sym (own-other a.tasks a.own a.x k.t h w.0.left))
+    (λ w. w.1 ∙ sym (own_other a.tasks a.own a.x k.t h w.0.left))
     c.if1.branch in
     let p : a.at + (k.t + 1) ≡ a.at + k.t + 1 = omega arith in
-    (omega arith, simp length-set k.invariant.1, rw p (sets-next k.v u (a.at + k.t) k.t c.if1.y (omega arith) y ∙ k.invariant.2))
+    (omega arith, simp length-set k.invariant.1, rw p (sets_next k.v u (a.at + k.t) k.t c.if1.y (omega arith) y ∙ k.invariant.2))
 
 returns : tie.Need-returns invariant-loop decreases-loop
 returns c =
     let a = c.before.before.args in
     let k = c.before.loop in
-    let n = own-length a.tasks a.own a.x in
-    sym (sets-all k.v (own_row a.tasks a.own a.x) (a.at + k.t) k.t (omega arith)) ∙ k.invariant.2
+    let n = own_length a.tasks a.own a.x in
+    sym (sets_all k.v (own_row a.tasks a.own a.x) (a.at + k.t) k.t (omega arith)) ∙ k.invariant.2
 
 pub fill-row-spec : {M : Type 1} → statement M
 fill-row-spec =

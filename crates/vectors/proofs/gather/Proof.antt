@@ -6,9 +6,9 @@ use native.Mathlib.Omega.{arith}
 use lib.ListN.{length, drop, length-set}
 use lib.Seq.{sets}
 use Rattle.vectors.specs.Rows.{column}
-use Rattle.vectors.proofs.Chunks.{column-length, column-at}
-use Rattle.model.proofs.Stores.{sets-front}
-use Rattle.vectors.proofs.Stores.{sets-next, sets-all}
+use Rattle.vectors.proofs.Chunks.{column_length, column_at}
+use Rattle.model.proofs.Stores.{sets_front}
+use Rattle.vectors.proofs.Stores.{sets_next, sets_all}
 use Rattle.vectors.proofs.gather.Statement.{statement}
 use Rattle.vectors.proofs.gather.Tie as tie
 
@@ -26,11 +26,11 @@ loop-again c =
     let a = c.before.before.before.before.before.before.before.args in
     let k = c.before.before.before.loop in
     let es = a.events.now in
-    let col = column-length a.tasks a.v.now a.t es in
-    let x = c.number.ensures ∙ sym (column-at a.tasks a.v.now a.t es k.i (omega arith)) in (
+    let col = column_length a.tasks a.v.now a.t es in
+    let x = c.number.ensures ∙ sym (column_at a.tasks a.v.now a.t es k.i (omega arith)) in (
       omega arith,
       simp length-set k.invariant.1,
-      sets-next k.out (column a.tasks a.v.now a.t es) k.i k.i _ (omega arith) x ∙ k.invariant.2,
+      sets_next k.out (column a.tasks a.v.now a.t es) k.i k.i _ (omega arith) x ∙ k.invariant.2,
     )
 
 returns : tie.Need-returns invariant-loop decreases-loop
@@ -38,10 +38,10 @@ returns c =
     let a = c.before.before.before.before.before.args in
     let k = c.before.loop in
     let es = a.events.now in
-    let col = column-length a.tasks a.v.now a.t es in
-    sym (sets-all k.out (column a.tasks a.v.now a.t es) k.i k.i (omega arith))
+    let col = column_length a.tasks a.v.now a.t es in
+    sym (sets_all k.out (column a.tasks a.v.now a.t es) k.i k.i (omega arith))
     ∙ k.invariant.2
-    ∙ sets-front a.out.now (column a.tasks a.v.now a.t es) (length es) col (omega arith)
+    ∙ sets_front a.out.now (column a.tasks a.v.now a.t es) (length es) col (omega arith)
 
 pub gather-spec : {M : Type 1} → statement M
 gather-spec =

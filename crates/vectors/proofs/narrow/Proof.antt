@@ -2,13 +2,13 @@
 -- Assumes nothing.
 use Prim.Native.Nat.{◌+◌, ◌-◌, ◌/◌, ◌≤◌}
 use native.Mathlib.Omega.{arith}
-use Rattle.model.specs.Numbers.{kthLeast}
-use Rattle.model.proofs.Least.{kth-le, kth-gt}
+use Rattle.model.specs.Numbers.{kth_least}
+use Rattle.model.proofs.Least.{kth_le, kth_gt}
 use Rattle.vectors.proofs.narrow.Statement.{statement}
 use Rattle.vectors.proofs.narrow.Tie as tie
 
 abbrev invariant-loop : tie.invariant-loop
-invariant-loop s k from to lo₀ hi₀ lo hi = (lo ≤ kthLeast k s) × (kthLeast k s ≤ hi) × (hi ≤ to)
+invariant-loop s k from to lo₀ hi₀ lo hi = (lo ≤ kth_least k s) × (kth_least k s ≤ hi) × (hi ≤ to)
 
 abbrev decreases-loop : tie.decreases-loop
 decreases-loop s k from to lo₀ hi₀ lo hi = hi - lo
@@ -17,13 +17,13 @@ loop-again : tie.Need-loop-preserved invariant-loop decreases-loop
 loop-again c =
     let a = c.before.before.before.before.before.args in
     let i = c.before.before.before.loop in
-    omega (arith, kth-le a.k a.s.now (i.lo + (i.hi - i.lo) / 2) (omega arith))
+    omega (arith, kth_le a.k a.s.now (i.lo + (i.hi - i.lo) / 2) (omega arith))
 
 loop-again-2 : tie.Need-loop-preserved-2 invariant-loop decreases-loop
 loop-again-2 c =
     let a = c.before.before.before.before.before.args in
     let i = c.before.before.before.loop in
-    omega (arith, kth-gt a.k a.s.now (i.lo + (i.hi - i.lo) / 2) (omega arith) (omega arith))
+    omega (arith, kth_gt a.k a.s.now (i.lo + (i.hi - i.lo) / 2) (omega arith) (omega arith))
 
 pub narrow-spec : {M : Type 1} → statement M
 narrow-spec =

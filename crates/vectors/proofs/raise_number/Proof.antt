@@ -11,7 +11,7 @@ use lib.Seq.{set-get_or}
 use borrow.Author.Rules.{rules}
 use Rattle.model.proofs.Tests.{cases, ltb-true, ltb-false}
 use Rattle.vectors.specs.Rows.{Rose}
-use Rattle.vectors.proofs.Rising.{rose-none, rose-one}
+use Rattle.vectors.proofs.Rising.{rose_none, rose_one}
 use Rattle.vectors.proofs.raise_number.Statement.{statement}
 use Rattle.vectors.proofs.raise_number.Tie as tie
 
@@ -20,8 +20,8 @@ rose : (l : List ℕ) (i y : ℕ) → i < length l → Rose l (set l i (max (get
 rose l i y h =
     let x = get_or l i 0 in
     cases (ltb x y)
-    (λ t. let m : max x y ≡ y = max-eq_right (omega (arith, ltb-true x y t)) in rw (t, m) (rose-one l i y h (ltb-true x y t)))
-    (λ t. let m : max x y ≡ x = max-eq_left (ltb-false x y t) in rw (t, m, set-get_or l i 0) (rose-none l))
+    (λ t. let m : max x y ≡ y = max-eq_right (omega (arith, ltb-true x y t)) in rw (t, m) (rose_one l i y h (ltb-true x y t)))
+    (λ t. let m : max x y ≡ x = max-eq_left (ltb-false x y t) in rw (t, m, set-get_or l i 0) (rose_none l))
 
 returns : tie.Need-returns
 returns c =

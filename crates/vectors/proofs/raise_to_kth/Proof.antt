@@ -3,12 +3,12 @@
 use mathlib.Core.Path.{sym}
 use Prim.Native.Nat.{ℕ, ◌*◌}
 use native.Mathlib.Omega.{arith}
-use Rattle.model.specs.Numbers.{kthLeast}
-use Rattle.model.proofs.Least.{kth-few}
+use Rattle.model.specs.Numbers.{kth_least}
+use Rattle.model.proofs.Least.{kth_few}
 use Rattle.vectors.specs.Rows.{column}
-use Rattle.vectors.proofs.Chunks.{column-length}
-use Rattle.vectors.proofs.Raised.{raised-none}
-use Rattle.vectors.proofs.Rising.{rose-none}
+use Rattle.vectors.proofs.Chunks.{column_length}
+use Rattle.vectors.proofs.Raised.{raised_none}
+use Rattle.vectors.proofs.Rising.{rose_none}
 use Rattle.vectors.proofs.raise_to_kth.Statement.{statement}
 use Rattle.vectors.proofs.raise_to_kth.Tie as tie
 
@@ -17,12 +17,12 @@ returns c =
     let a = c.before.before.before.args in
     let l = a.v.now in
     let es = a.events.now in
-    let g : ℕ → ℕ = λ t. kthLeast a.k (column a.tasks l t es) in
-    let few = raised-none l (a.e * a.tasks) g a.tasks λ t h.
-    let n = column-length a.tasks l t es in
-    let z = kth-few a.k (column a.tasks l t es) (omega arith) in
+    let g : ℕ → ℕ = λ t. kth_least a.k (column a.tasks l t es) in
+    let few = raised_none l (a.e * a.tasks) g a.tasks λ t h.
+    let n = column_length a.tasks l t es in
+    let z = kth_few a.k (column a.tasks l t es) (omega arith) in
     omega arith in
-    (sym few, rose-none l)
+    (sym few, rose_none l)
 
 pub raise-to-kth-spec : {M : Type 1} → statement M
 raise-to-kth-spec =

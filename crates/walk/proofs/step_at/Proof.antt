@@ -2,17 +2,17 @@
 use mathlib.Core.Path.{◌∙◌}
 use native.Mathlib.Omega.{arith}
 use borrow.Author.Tests.{lt-ltb, le-ltb}
-use Rattle.model.specs.Walking.{stepAt}
-use Rattle.events.proofs.Laws.{event-at}
+use Rattle.model.specs.Walking.{step_at}
+use Rattle.events.proofs.Laws.{event_at_lem}
 use Rattle.walk.proofs.step_at.Statement.{statement}
 use Rattle.walk.proofs.step_at.Tie as tie
 
 returns : tie.Need-returns
-unfolding stepAt
-returns c = simp (lt-ltb _ _ c.before.if1.true, c.event-at.ensures ∙ event-at _ _ c.before.if1.true)
+unfolding step_at
+returns c = simp (lt-ltb _ _ c.before.if1.true, c.event_at.ensures ∙ event_at_lem _ _ c.before.if1.true)
 
 returns-2 : tie.Need-returns-2
-unfolding stepAt
+unfolding step_at
 returns-2 c = simp (le-ltb _ _ c.if1.false)
 
 pub step-at-spec : {M : Type 1} → statement M

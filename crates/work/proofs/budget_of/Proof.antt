@@ -2,16 +2,16 @@
 use native.Mathlib.Omega.{arith}
 use native.Mathlib.Nat.{mul-le-mul}
 use borrow.Author.Tests.{le-leb, lt-leb}
-use Rattle.work.specs.Lent.{budgetIn}
+use Rattle.work.specs.Lent.{budget_in}
 use Rattle.work.proofs.budget_of.Statement.{statement}
 use Rattle.work.proofs.budget_of.Tie as tie
 
 returns : tie.Need-returns
-unfolding budgetIn
+unfolding budget_in
 returns c = simp (le-leb _ _ c.if1.true)
 
 returns-2 : tie.Need-returns-2
-unfolding budgetIn
+unfolding budget_in
 returns-2 c = simp (lt-leb _ _ c.if1.false)
 
 pub budget-of-spec : {M : Type 1} → statement M

@@ -4,9 +4,9 @@ use Prim.Native.Nat.{◌*◌, ◌≤◌}
 use native.Mathlib.Omega.{arith}
 use borrow.Author.Rules.{rules}
 use lib.ListN.{length}
-use Rattle.model.specs.File.{recordingBy}
+use Rattle.model.specs.File.{recording_by}
 use Rattle.passes.specs.Lent.{Prepared}
-use Rattle.work.proofs.Parts.{first_part, rest-room, filled-by}
+use Rattle.work.proofs.Parts.{first_part, rest_room, filled_by}
 use Rattle.work.proofs.fill.Statement.{statement}
 use Rattle.work.proofs.fill.Tie as tie
 
@@ -35,7 +35,7 @@ record-requires c κs =
     let g = k.before.before.before.before.before in
     let n = g.before.before in
     let s = n.before.before.before.before in
-    let r = rest-room n.numbers.result s.args.work.now k.run.new.1.1.1.1.1.1.1.0 (the-length k) (the-room n) in
+    let r = rest_room n.numbers.result s.args.work.now k.run.new.1.1.1.1.1.1.1.0 (the-length k) (the-room n) in
     (prepared g, omega (arith, n.numbers.ensures.0))
 
 returns : tie.Need-returns
@@ -45,8 +45,8 @@ returns c =
     let s = n.before.before.before.before in
     let e = n.numbers.ensures.0 in (
       (k.run.ensures.0, k.run.ensures.1.0),
-      filled-by n.numbers.result s.args.work.now k.run.new.1.1.1.1.1.1.1.0 (the-length k) (the-room n)
-          (recordingBy s.args.records.now s.args.counts s.args.levels.now) s.args.budget c.before.before.«record».new.1.1.1.1.1.1.0 e k.run.ensures.1.1
+      filled_by n.numbers.result s.args.work.now k.run.new.1.1.1.1.1.1.1.0 (the-length k) (the-room n)
+          (recording_by s.args.records.now s.args.counts s.args.levels.now) s.args.budget c.before.before.«record».new.1.1.1.1.1.1.0 e k.run.ensures.1.1
           (c.before.before.«record».ensures ∙ rw (sym e)),
     )
 

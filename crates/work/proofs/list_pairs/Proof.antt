@@ -2,7 +2,7 @@
 use mathlib.Core.Path.{ap₂, subst}
 use mathlib.Core.List.{List, []}
 use borrow.Author.Rules.{rules}
-use Rattle.model.specs.File.{recordingBy}
+use Rattle.model.specs.File.{recording_by}
 use Rattle.model.specs.Pairs.{Entry, entries}
 use Rattle.pairs.specs.Lent.{WrittenList}
 use Rattle.work.proofs.list_pairs.Statement.{statement}
@@ -28,7 +28,7 @@ returns c =
     let a = r.before.before.before.before.before.args in
     let l = c.before.before.list in
     subst (λ (es : List Entry). WrittenList a.width es a.list.now l.new.1.1.1.1.1.1.0 l.result.fits l.result.pairs)
-    (ap₂ (entries (recordingBy a.records.now a.counts [])) r.before.safe-part.ensures.0 r.Recorded-part.ensures.0) l.ensures
+    (ap₂ (entries (recording_by a.records.now a.counts [])) r.before.safe-part.ensures.0 r.Recorded-part.ensures.0) l.ensures
 
 pub list-pairs-spec : {M : Type 1} → statement M
 list-pairs-spec =

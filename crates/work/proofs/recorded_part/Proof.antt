@@ -2,7 +2,7 @@
 use mathlib.Core.Path.{◌∙◌}
 use native.Mathlib.Omega.{arith}
 use borrow.Author.Rules.{rules}
-use Rattle.work.proofs.Parts.{second-part, second-vectors}
+use Rattle.work.proofs.Parts.{second_part, second_vectors}
 use Rattle.work.proofs.recorded_part.Statement.{statement}
 use Rattle.work.proofs.recorded_part.Tie as tie
 
@@ -11,7 +11,7 @@ returns c =
     let n = c.before in
     let a = n.before.before.before.args in
     let e = n.numbers.ensures.0 in
-    (second-vectors a.records.now a.counts a.work.now n.numbers.result e, second-part _ _ (omega arith) ∙ e)
+    (second_vectors a.records.now a.counts a.work.now n.numbers.result e, second_part _ _ (omega arith) ∙ e)
 
 pub recorded-part-spec : {M : Type 1} → statement M
 recorded-part-spec =

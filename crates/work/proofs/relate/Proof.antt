@@ -2,9 +2,9 @@
 use mathlib.Core.Path.{ap₂, ◌∙◌}
 use mathlib.Core.List.{[]}
 use borrow.Author.Rules.{rules}
-use Rattle.model.specs.File.{recordingBy}
+use Rattle.model.specs.File.{recording_by}
 use Rattle.model.specs.Vectors.{Vectors}
-use Rattle.model.specs.Question.{relationBy}
+use Rattle.model.specs.Question.{relation_by}
 use Rattle.work.proofs.relate.Statement.{statement}
 use Rattle.work.proofs.relate.Tie as tie
 
@@ -19,7 +19,7 @@ returns c =
     let r = c.before.before in
     let a = r.before.before.before.before.args in
     c.relation.ensures
-    ∙ ap₂ (λ (X R : Vectors). relationBy (recordingBy a.records.now a.counts []) X R a.a a.b) r.before.safe-part.ensures.0 r.Recorded-part.ensures.0
+    ∙ ap₂ (λ (X R : Vectors). relation_by (recording_by a.records.now a.counts []) X R a.a a.b) r.before.safe-part.ensures.0 r.Recorded-part.ensures.0
 
 pub relate-spec : {M : Type 1} → statement M
 relate-spec = tie.close (tie.spec (λ c κs. search rules) (λ c κs. search rules) relation-requires returns)

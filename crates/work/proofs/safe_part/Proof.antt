@@ -4,7 +4,7 @@ use Prim.Native.Nat.{ℕ}
 use native.Mathlib.Omega.{arith}
 use borrow.Author.Rules.{rules}
 use lib.ListN.{take}
-use Rattle.passes.specs.Lent.{vectorsIn}
+use Rattle.passes.specs.Lent.{vectors_in}
 use Rattle.work.proofs.Parts.{first_part}
 use Rattle.work.proofs.safe_part.Statement.{statement}
 use Rattle.work.proofs.safe_part.Tie as tie
@@ -14,7 +14,7 @@ returns c =
     let n = c.before in
     let a = n.before.before.before.args in
     let e = n.numbers.ensures.0 in
-    (ap (λ (m : ℕ). vectorsIn a.records.now a.counts (take m a.work.now)) e, first_part _ _ (omega arith) ∙ e)
+    (ap (λ (m : ℕ). vectors_in a.records.now a.counts (take m a.work.now)) e, first_part _ _ (omega arith) ∙ e)
 
 pub safe-part-spec : {M : Type 1} → statement M
 safe-part-spec = tie.close (tie.spec (λ c κs. search rules) (λ c. sym (first_part _ _ (omega arith))) returns)

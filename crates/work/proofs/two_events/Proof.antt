@@ -3,13 +3,13 @@ use mathlib.Core.Path.{◌≡◌}
 use Prim.Native.Nat.{◌/◌}
 use native.Mathlib.Omega.{arith}
 use lib.ListN.{length}
-use Rattle.model.specs.File.{eventsOf}
+use Rattle.model.specs.File.{events_of}
 use Rattle.work.proofs.two_events.Statement.{statement}
 use Rattle.work.proofs.two_events.Tie as tie
 
 returns : tie.Need-returns
 returns c =
-    let e : length c.args.records.now / 4 ≡ length (eventsOf c.args.records.now) = omega (arith, c.requires.records.whole) in
+    let e : length c.args.records.now / 4 ≡ length (events_of c.args.records.now) = omega (arith, c.requires.records.whole) in
     rw e
 
 pub two-events-spec : {M : Type 1} → statement M

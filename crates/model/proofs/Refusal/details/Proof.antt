@@ -4,13 +4,13 @@ use mathlib.Core.Path.{◌≡◌, refl, sym, ap, ◌∙◌}
 use borrow.Author.Rules.{rules}
 use Rattle.model.specs.declared.Refusal.{Refusal}
 use Rattle.model.specs.declared.Details.{Details}
-use Rattle.model.specs.Refusals.{detailsOf}
+use Rattle.model.specs.Refusals.{details_of}
 use Rattle.model.proofs.Refusal.details.Statement.{statement}
 use Rattle.model.proofs.Refusal.details.Tie as tie
 
 -- an arm that answers the line of r, where r is what it was told
-row : {r x : Refusal} {d : Details} → d ≡ detailsOf r → x ≡ r → d ≡ detailsOf x
-row answered told = answered ∙ sym (ap detailsOf told)
+row : {r x : Refusal} {d : Details} → d ≡ details_of r → x ≡ r → d ≡ details_of x
+row answered told = answered ∙ sym (ap details_of told)
 
 pub details-spec : {M : Type 1} → statement M
 details-spec =
@@ -37,7 +37,7 @@ details-spec =
     (λ c. row c.alone2.ensures c.before.enum-told2.given.1)
     (λ c. row c.alone3.ensures c.before.enum-told3.given.1)
     (λ c. row c.alone4.ensures c.before.enum-told4.given.1)
-    (λ c. row c.at-record.ensures c.before.before.self.given.1)
+    (λ c. row c.at_record_lem.ensures c.before.before.self.given.1)
     (λ c. row c.at-record2.ensures c.before.before.self2.given.1)
     (λ c. row c.at-record3.ensures c.before.before.self3.given.1)
     (λ c. row c.at-record4.ensures c.before.before.self4.given.1)

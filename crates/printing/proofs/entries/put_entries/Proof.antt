@@ -6,27 +6,27 @@ use native.Mathlib.Nat.{le_antisymm}
 use lib.ListN.{length}
 use Rattle.model.specs.Numbers.{each}
 use Rattle.printing.specs.Output.{Put}
-use Rattle.printing.specs.Entries.{nthLine}
-use Rattle.printing.proofs.Putting.{put-nothing}
-use Rattle.printing.proofs.Listing.{none, put-more}
+use Rattle.printing.specs.Entries.{nth_line}
+use Rattle.printing.proofs.Putting.{put_nothing}
+use Rattle.printing.proofs.Listing.{none, put_more}
 use Rattle.printing.proofs.entries.put_entries.Statement.{statement}
 use Rattle.printing.proofs.entries.put_entries.Tie as tie
 
 abbrev invariant-loop : tie.invariant-loop
 invariant-loop out₀ at records list pairs next₀ i₀ out next i =
-    (i ≤ pairs) × (length out ≡ length out₀) × Put out₀ out at (each (nthLine records list) i) next
+    (i ≤ pairs) × (length out ≡ length out₀) × Put out₀ out at (each (nth_line records list) i) next
 
 abbrev decreases-loop : tie.decreases-loop
 decreases-loop out₀ at records list pairs next₀ i₀ out next i = pairs - i
 
 loop-holds : tie.Need-loop-init invariant-loop decreases-loop
-loop-holds c = (omega arith, refl, rw none (put-nothing _ _ (omega arith)))
+loop-holds c = (omega arith, refl, rw none (put_nothing _ _ (omega arith)))
 
 loop-again : tie.Need-loop-preserved invariant-loop decreases-loop
 loop-again c = (
   omega arith,
   omega arith,
-  put-more _ _ c.before.before.before.before.before.loop.invariant.2 c.before.before.put-nth.ensures,
+  put_more _ _ c.before.before.before.before.before.loop.invariant.2 c.before.before.put-nth.ensures,
 )
 
 returns : tie.Need-returns invariant-loop decreases-loop

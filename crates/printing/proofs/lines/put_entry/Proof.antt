@@ -3,12 +3,12 @@ use native.Mathlib.Omega.{arith}
 use borrow.Author.Rules.{rules}
 use Rattle.printing.proofs.Putting.{put_then}
 use Rattle.model.specs.Text.{bytes}
-use Rattle.model.specs.Report.{field, entryLine}
+use Rattle.model.specs.Report.{field, entry_line}
 use Rattle.printing.proofs.lines.put_entry.Statement.{statement}
 use Rattle.printing.proofs.lines.put_entry.Tie as tie
 
 returns : tie.Need-returns
-unfolding bytes field entryLine
+unfolding bytes field entry_line
 returns c =
     let c6 = c.before.before in
     let c5 = c6.before.before.before.before.before in

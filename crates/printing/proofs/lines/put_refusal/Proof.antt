@@ -4,12 +4,12 @@ use native.Mathlib.Omega.{arith}
 use borrow.Author.Rules.{rules}
 use Rattle.printing.proofs.Putting.{put_then}
 use Rattle.model.specs.Text.{bytes}
-use Rattle.model.specs.Report.{field, refusalLine}
+use Rattle.model.specs.Report.{field, refusal_line}
 use Rattle.printing.proofs.lines.put_refusal.Statement.{statement}
 use Rattle.printing.proofs.lines.put_refusal.Tie as tie
 
 returns : tie.Need-returns
-unfolding bytes field refusalLine
+unfolding bytes field refusal_line
 returns c =
     let c3 = c.before.before in
     let c2 = c3.before.before.before.before.before in

@@ -3,12 +3,12 @@ use native.Mathlib.Omega.{arith}
 use borrow.Author.Rules.{rules}
 use Rattle.printing.proofs.Putting.{put_then}
 use Rattle.model.specs.Text.{bytes}
-use Rattle.model.specs.Report.{field, resultLine}
+use Rattle.model.specs.Report.{field, result_line}
 use Rattle.printing.proofs.lines.put_result.Statement.{statement}
 use Rattle.printing.proofs.lines.put_result.Tie as tie
 
 returns : tie.Need-returns
-unfolding bytes field resultLine
+unfolding bytes field result_line
 returns c =
     let c7 = c.before.before in
     let c6 = c7.before.before.before.before.before in

@@ -4,7 +4,7 @@ use Prim.Native.Nat.{ℕ, ◌<◌}
 use native.Mathlib.Omega.{arith}
 use borrow.Fn.Kinds.{In}
 use borrow.Fn.PlainCycle.{Measures, is, falls, and}
-use Rattle.printing.proofs.Decimal.{decimal_digit, decimal-more}
+use Rattle.printing.proofs.Decimal.{decimal_digit, decimal_more}
 use Rattle.printing.proofs.Putting.{put_then}
 use Rattle.printing.proofs.output.put_number.Reads as put-number
 use Rattle.printing.proofs.output.put_number.Kinds as kinds
@@ -34,4 +34,4 @@ pub +put-number-spec : {M : Type 1} → statement M
     (λ c κs. omega arith)
     (λ c κs. omega arith)
     (λ c. omega arith)
-    (λ c. rw (decimal-more c.before.before.before.before.before.before.before.before.before.before.args.n (omega arith) (omega arith)) (put_then c.before.before.before.before.before.before.put-number.ensures c.before.before.put-byte2.ensures))
+    (λ c. rw (decimal_more c.before.before.before.before.before.before.before.before.before.before.args.n (omega arith) (omega arith)) (put_then c.before.before.before.before.before.before.put-number.ensures c.before.before.put-byte2.ensures))

@@ -5,7 +5,7 @@ use native.Mathlib.Omega.{arith}
 use lib.ListN.{length, take}
 use lib.Seq.{take_all}
 use Rattle.printing.specs.Output.{Put}
-use Rattle.printing.proofs.Putting.{put-nothing, put_next}
+use Rattle.printing.proofs.Putting.{put_nothing, put_next}
 use Rattle.printing.proofs.output.put_text.Statement.{statement}
 use Rattle.printing.proofs.output.put_text.Tie as tie
 
@@ -16,7 +16,7 @@ abbrev decreases-loop : tie.decreases-loop
 decreases-loop out₀ at text next₀ i₀ out next i = length text - i
 
 loop-holds : tie.Need-loop-init invariant-loop decreases-loop
-loop-holds c = (omega arith, refl, put-nothing _ _ (omega arith))
+loop-holds c = (omega arith, refl, put_nothing _ _ (omega arith))
 
 loop-again : tie.Need-loop-preserved invariant-loop decreases-loop
 loop-again c =

@@ -4,7 +4,7 @@ use borrow.Author.Rules.{rules}
 use mathlib.Core.Path.{◌≡◌, sym, ◌∙◌}
 use Rattle.model.specs.declared.Reading.{Reading}
 use Rattle.model.specs.Reading.{reading_of}
-use Rattle.recording.proofs.Files.{within, the-levels, no-levels}
+use Rattle.recording.proofs.Files.{within, the_levels, no_levels}
 use Rattle.recording.proofs.reading.levels.Statement.{statement}
 use Rattle.recording.proofs.reading.levels.Tie as tie
 
@@ -16,10 +16,10 @@ levels-of-requires : tie.Need-levels-of-requires
 levels-of-requires c κs = omega (arith, within _ _ (accepted c.before))
 
 returns : tie.Need-returns
-returns c = c.levels-of.ensures ∙ the-levels _ _ (accepted c.before.before)
+returns c = c.levels-of.ensures ∙ the_levels _ _ (accepted c.before.before)
 
 returns-2 : tie.Need-returns-2
-returns-2 c = no-levels _ _ (sym c.before.before.before.read.ensures ∙ c.before.enum_told.given.1)
+returns-2 c = no_levels _ _ (sym c.before.before.before.read.ensures ∙ c.before.enum_told.given.1)
 
 pub levels-spec : {M : Type 1} → statement M
 levels-spec =

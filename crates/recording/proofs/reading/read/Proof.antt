@@ -7,10 +7,10 @@ use mathlib.Core.List.{List}
 use Prim.Native.Nat.{ℕ, ◌+◌, ◌*◌}
 use lib.ListN.{length}
 use Rattle.model.specs.declared.Trailer.{Trailer}
-use Rattle.model.specs.File.{trailerAt, levelCount}
-use Rattle.model.specs.Reading.{knownEdition, in_range, fileCheck}
+use Rattle.model.specs.File.{trailer_at, level_count}
+use Rattle.model.specs.Reading.{known_edition, in_range, file_check}
 use Rattle.rules.proofs.Laws.{passed, failed}
-use Rattle.recording.proofs.Files.{refused-by, accepted-by, too_short, other-edition, no-extent, out_of_range, not-up, by-records, part_length}
+use Rattle.recording.proofs.Files.{refused_by, accepted_by, too_short, other_edition, no_extent, out_of_range, not_up, by_records, part_length}
 use Rattle.recording.proofs.reading.read.Statement.{statement}
 use Rattle.recording.proofs.reading.read.Tie as tie
 
@@ -25,7 +25,7 @@ module _ (c : tie.Else2) where
   abbrev h : Trailer
   h = trailer.trailer-of.result
 
-  known : knownEdition h.counts ≡ true
+  known : known_edition h.counts ≡ true
   known = passed c.before.known-edition.ensures c.if2.false
 
 -- after the third the extent is met
@@ -33,7 +33,7 @@ module _ (c : tie.Else3) where
   abbrev edition : tie.Else2
   edition = c.before.before.before.before
 
-  met : (h edition).start + 4 * (h edition).records + levelCount (h edition).counts ≡ trailerAt (file edition)
+  met : (h edition).start + 4 * (h edition).records + level_count (h edition).counts ≡ trailer_at (file edition)
   met = let n = c.before.before.before.level-count.ensures.0 in let t = c.if3.false in omega arith
 
 -- after the fourth the counts are in range
@@ -42,7 +42,7 @@ module _ (c : tie.Else4) where
   extent = c.before.before
 
   ranged : in_range (h (edition extent)).counts (h (edition extent)).records ≡ true
-  ranged = passed c.before.in-range.ensures c.if4.false
+  ranged = passed c.before.in_range.ensures c.if4.false
 
 -- after the fifth the file's check is that of its records
 module _ (c : tie.After-first-fault) where
@@ -52,35 +52,35 @@ module _ (c : tie.After-first-fault) where
   abbrev range : tie.Else4
   range = up.before.before.before.before
 
-  checked : fileCheck (file (edition (extent range))) ≡ c.first-fault.result
+  checked : file_check (file (edition (extent range))) ≡ c.first-fault.result
   checked =
       let k = edition (extent range) in
-      by-records _ (trailer k).before.if1.left _ (trailer k).trailer-of.ensures.0 (known k) (met (extent range)) (ranged range)
-      _ _ up.before.before.before.levels-of.ensures up.before.before.post-bytes.ensures
+      by_records _ (trailer k).before.if1.left _ (trailer k).trailer-of.ensures.0 (known k) (met (extent range)) (ranged range)
+      _ _ up.before.before.before.levels-of.ensures up.before.before.post_bytes.ensures
       (passed up.before.posts-up.ensures up.if5.left) _ c.before.records-of.ensures _ c.first-fault.ensures
 
 returns : tie.Need-returns
-returns c = refused-by _ _ (too_short _ c.if1.true)
+returns c = refused_by _ _ (too_short _ c.if1.true)
 
 returns-2 : tie.Need-returns-2
 returns-2 c =
     let t = c.before.before.before in
-    refused-by _ _ (other-edition _ t.before.if1.false _ t.trailer-of.ensures.0 (failed c.before.known-edition.ensures c.if2.true))
+    refused_by _ _ (other_edition _ t.before.if1.false _ t.trailer-of.ensures.0 (failed c.before.known-edition.ensures c.if2.true))
 
 returns-3 : tie.Need-returns-3
 returns-3 c =
     let k = c.before.before.before.before in
-    refused-by _ _
-    (no-extent _ (trailer k).before.if1.false _ (trailer k).trailer-of.ensures.0 (known k)
+    refused_by _ _
+    (no_extent _ (trailer k).before.if1.false _ (trailer k).trailer-of.ensures.0 (known k)
     (λ e. c.if3.true (let n = c.before.before.before.level-count.ensures.0 in omega arith)))
 
 returns-4 : tie.Need-returns-4
 returns-4 c =
     let x = c.before.before in
     let k = edition x in
-    refused-by _ _
+    refused_by _ _
     (out_of_range _ (trailer k).before.if1.left _ (trailer k).trailer-of.ensures.0 (known k) (met x)
-    (failed c.before.in-range.ensures c.if4.true))
+    (failed c.before.in_range.ensures c.if4.true))
 
 levels-of-requires : tie.Need-levels-of-requires
 levels-of-requires c κs = omega (arith, met (extent c))
@@ -89,9 +89,9 @@ returns-5 : tie.Need-returns-5
 returns-5 c =
     let r = c.before.before.before.before in
     let k = edition (extent r) in
-    refused-by _ _
-    (not-up _ (trailer k).before.if1.left _ (trailer k).trailer-of.ensures.0 (known k) (met (extent r)) (ranged r)
-    _ _ c.before.before.before.levels-of.ensures c.before.before.post-bytes.ensures (failed c.before.posts-up.ensures c.if5.true))
+    refused_by _ _
+    (not_up _ (trailer k).before.if1.left _ (trailer k).trailer-of.ensures.0 (known k) (met (extent r)) (ranged r)
+    _ _ c.before.before.before.levels-of.ensures c.before.before.post_bytes.ensures (failed c.before.posts-up.ensures c.if5.true))
 
 records-of-requires : tie.Need-records-of-requires
 records-of-requires c κs = omega (arith, met (extent c.before.before.before.before))
@@ -105,10 +105,10 @@ first-fault-requires c κs =
 returns-6 : tie.Need-returns-6
 returns-6 c =
     let fault = c.before.before in
-    accepted-by _ _ (trailer (edition (extent (range fault)))).trailer-of.ensures.0 (checked fault ∙ c.enum_told.given.1)
+    accepted_by _ _ (trailer (edition (extent (range fault)))).trailer-of.ensures.0 (checked fault ∙ c.enum_told.given.1)
 
 returns-7 : tie.Need-returns-7
-returns-7 c = refused-by _ _ (checked c.before.before.before ∙ c.before.r.given.1)
+returns-7 c = refused_by _ _ (checked c.before.before.before ∙ c.before.r.given.1)
 
 pub read_spec : {M : Type 1} → statement M
 read_spec =

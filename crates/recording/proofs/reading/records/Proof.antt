@@ -4,7 +4,7 @@ use borrow.Author.Rules.{rules}
 use mathlib.Core.Path.{◌≡◌, sym, ◌∙◌}
 use Rattle.model.specs.declared.Reading.{Reading}
 use Rattle.model.specs.Reading.{reading_of}
-use Rattle.recording.proofs.Files.{within, the-records, no-records}
+use Rattle.recording.proofs.Files.{within, the_records, no_records}
 use Rattle.recording.proofs.reading.records.Statement.{statement}
 use Rattle.recording.proofs.reading.records.Tie as tie
 
@@ -16,10 +16,10 @@ records-of-requires : tie.Need-records-of-requires
 records-of-requires c κs = omega (arith, within _ _ (accepted c.before))
 
 returns : tie.Need-returns
-returns c = c.records-of.ensures ∙ the-records _ _ (accepted c.before.before)
+returns c = c.records-of.ensures ∙ the_records _ _ (accepted c.before.before)
 
 returns-2 : tie.Need-returns-2
-returns-2 c = no-records _ _ (sym c.before.before.before.read.ensures ∙ c.before.enum_told.given.1)
+returns-2 c = no_records _ _ (sym c.before.before.before.read.ensures ∙ c.before.enum_told.given.1)
 
 pub records-spec : {M : Type 1} → statement M
 records-spec =

@@ -7,8 +7,8 @@ use Prim.Native.Nat.{◌+◌, ◌≤◌}
 use lib.ListN.{length, take, length-append}
 use Rattle.model.specs.declared.Counts.{Counts}
 use Rattle.model.specs.declared.Check.{Check}
-use Rattle.model.specs.Writing.{lentCheck}
-use Rattle.recording.proofs.Outputs.{ranged, few-levels, answered, left, refused, kept}
+use Rattle.model.specs.Writing.{lent_check}
+use Rattle.recording.proofs.Outputs.{ranged, few_levels, answered, left, refused, kept}
 use Rattle.recording.proofs.writing.write.Statement.{statement}
 use Rattle.recording.proofs.writing.write.Tie as tie
 
@@ -20,14 +20,14 @@ module _ (c : tie.After-enum-told) where
   abbrev counts : Counts
   counts = record { tasks = s.args.tasks; semaphores = s.args.semaphores; cells = s.args.cells; edition = s.args.edition }
 
-  passes : lentCheck s.args.records.now counts s.args.starts.now s.args.posts.now ≡ Check.Passed
+  passes : lent_check s.args.records.now counts s.args.starts.now s.args.posts.now ≡ Check.Passed
   passes = sym c.before.before.lent-check.ensures ∙ c.enum_told.given.1
 
 join-levels-requires : tie.Need-join-levels-requires
-join-levels-requires c κs = few-levels _ _ _ _ (passes c)
+join-levels-requires c κs = few_levels _ _ _ _ (passes c)
 
 add-n : tie.Need-overflow-add-n
-add-n c = omega (arith, few-levels _ _ _ _ (passes c.before))
+add-n c = omega (arith, few_levels _ _ _ _ (passes c.before))
 
 -- the joined level bytes are lent, and they are few
 module _ (c : tie.After-join-levels) where
@@ -35,7 +35,7 @@ module _ (c : tie.After-join-levels) where
   lent = c.before
 
   few : length (s lent).args.starts.now + length (s lent).args.posts.now ≤ 128
-  few = few-levels _ _ _ _ (passes lent)
+  few = few_levels _ _ _ _ (passes lent)
 
   their-length : length (take (length (s lent).args.starts.now + length (s lent).args.posts.now) c.join-levels.result)
       ≡ length (s lent).args.starts.now + length (s lent).args.posts.now

@@ -3,7 +3,7 @@ use native.Mathlib.Omega.{arith}
 use borrow.Author.Rules.{rules}
 use mathlib.Core.Path.{◌≡◌, sym, ◌∙◌}
 use Rattle.model.specs.declared.Check.{Check}
-use Rattle.recording.specs.Filing.{filingCheck}
+use Rattle.recording.specs.Filing.{filing_check}
 use Rattle.recording.proofs.Outputs.{fits}
 use Rattle.recording.proofs.writing.write_checked.Statement.{statement}
 use Rattle.recording.proofs.writing.write_checked.Tie as tie
@@ -13,7 +13,7 @@ module _ (c : tie.After-enum-told) where
   abbrev s : tie.Start
   s = c.before.before.before.before.before.before.before
 
-  passes : filingCheck s.args.records.now s.args.counts s.args.levels.now s.args.out.now ≡ Check.Passed
+  passes : filing_check s.args.records.now s.args.counts s.args.levels.now s.args.out.now ≡ Check.Passed
   passes = sym c.before.before.filing-check.ensures ∙ c.enum_told.given.1
 
 put-file-requires : tie.Need-put-file-requires

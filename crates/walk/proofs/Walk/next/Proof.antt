@@ -46,7 +46,7 @@ use denote.Triple.Spec.{Meets, triple_of}
 use denote.Triple.Table.{entered, cited}
 use denote.Triple.Walked.{says, Stays, stay_ref, walk_of, Goes-ref, Walks, ends_at, walked, walk_Meets}
 use denote.Triple.Clauses.{ensured, lasts}
-use Rattle.model.specs.Walking.{stepAt}
+use Rattle.model.specs.Walking.{step_at}
 use Rattle.walk.specs.declared.Walk.{Walk}
 use Rattle.model.specs.declared.Step.{Step}
 use Rattle.walk.specs.contracts.Walk as T
@@ -118,7 +118,7 @@ module _ {M : Type 1} {𝓤 : Ura M} (𝓛 : Logic 𝓤) (at_mem : Memory → SP
   to = (((κ', tt), (q', tt), tt, (h.records, (h.next, tt)), passed), tt)
 
   abbrev found : Step
-  found = stepAt h.records.now h.next
+  found = step_at h.records.now h.next
 
   asked : ent 𝓤 (on_entry 𝓛 step.signature (κ', tt) (q', tt) (h.records, (h.next, tt)) passed) ((StepAt 𝓛 at_mem run).pre to)
   asked = qed 𝓛 ((‵ (flft κ' q') ⊛ ‵ ftrue) ∷ ‵ (owns (ShrSlice (named 0) κ' u8 ∷ usize ∷ []) (h.records, (h.next, tt)) passed) ∷ []) ∵ join ! $ frame ! $ done !

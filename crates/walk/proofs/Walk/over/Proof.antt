@@ -39,7 +39,7 @@ use denote.Triple.Table.{entered, cited}
 use denote.Triple.Walked.{says, Stays, stay_none_slice, walk_of, Goes-none_slice, Walks, ends_at, walked, walk_Meets}
 use denote.Triple.Clauses.{ensured, lasts}
 use denote.Exit.{yes}
-use Rattle.model.specs.Reading.{recordsOf}
+use Rattle.model.specs.Reading.{records_of}
 use Rattle.walk.specs.declared.Walk.{Walk}
 use Rattle.walk.specs.contracts.Walk as T
 use Rattle.walk.proofs.Walk.TheLaws as T'
@@ -89,7 +89,7 @@ module _ {M : Type 1} {𝓤 : Ura M} (𝓛 : Logic 𝓤) (mem : Memory → SProp
       move ! (0 ∷ 2 ∷ []) $ fjoin ! $ move ! (2 ∷ 0 ∷ []) $ use2 𝓛 (raw ((Part 𝓛 mem run).pre to)) (qed 𝓛 ((‵ (flft κ q) ⊛ ‵ ftrue) ∷ ‵ (owns (ShrSlice (named 0) κ u8 ∷ []) (s, tt) at) ∷ []) ∵ join ! $ frame ! $ done !) $ frame ! $ done !
 
   abbrev Said : Bor (List ℕ) → Type 0
-  Said r = r.now ≡ recordsOf s.now
+  Said r = r.now ≡ records_of s.now
 
   said : (r : Bor (List ℕ)) → ent 𝓤 (ensured 𝓛 part.ended (part.clauses 𝓛 mem run) (κ, tt) (s, tt) tt r) (fact 𝓤 (Said r))
   said r = ex_e 𝓤 _ (λ ws. snd∗ 𝓤 (sem 𝓛 (lasts part.ended (κ, tt) (s, tt) ws)) (fact 𝓤 (Said r)))
