@@ -91,6 +91,7 @@ module _ {A B : Type 0} (y : B) (f : A → List B) where
 
   pub flat_in : (l : List A) (x : A) → Memᴰ x l → Memᴰ y (f x) → Memᴰ y (flat_map f l)
   unfolding flat_map
+  flat_in [] x h k = elim h [ ]
   flat_in (z ∷ l) x (Memᴰ.head q) k = Memᴰ.append_left (flat_map f l) (subst (λ (w : A). Memᴰ y (f w)) q k)
   flat_in (z ∷ l) x (Memᴰ.tail m) k = Memᴰ.append_right (f z) (flat_in l x m k)
 

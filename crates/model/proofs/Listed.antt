@@ -174,6 +174,7 @@ module _ (E : Recording) (X R : Vectors) where
   cell_in : (o : List ℕ) (a e : ℕ) → Memᴰ a o → Memᴰ e o → race_pair E X a e ≡ true
       → Memᴰ (entry E R a e) (cell_entries E X R o (object_of E a)) ⊎ Memᴰ (entry E R e a) (cell_entries E X R o (object_of E a))
   unfolding cell_entries flat_map_tails
+  cell_in [] a e h _ t = elim h [ ]
   cell_in (x ∷ o) a e (Memᴰ.head p) (Memᴰ.head q) t = absurd (race_tasks E X a e t (ap (task_of E) (p ∙ sym q)))
   cell_in (x ∷ o) a e (Memᴰ.head p) (Memᴰ.tail n) t =
       inl (Memᴰ.append_left _ (subst (λ (y : ℕ). Memᴰ (entry E R a e) (row_at E X R (object_of E a) y o)) p (row_in a e o n t)))

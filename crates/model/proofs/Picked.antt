@@ -20,6 +20,7 @@ use Rattle.model.proofs.Place.{place_lt, place_here, place_there, at_occurs}
 
 mem_occurs : (e : ℕ) (l : List ℕ) → Memᴰ e l → 0 < occurrences e l
 unfolding count
+mem_occurs e [] h = elim h [ ]
 mem_occurs e (x ∷ l) (Memᴰ.head q) = let b = bit_true (eq-eqb e x q) in omega arith
 mem_occurs e (x ∷ l) (Memᴰ.tail m) = let h = mem_occurs e l m in omega arith
 

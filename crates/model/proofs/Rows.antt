@@ -13,7 +13,7 @@ use Rattle.model.specs.declared.Relation.{Relation}
 use Rattle.model.specs.declared.Answer.{Answer}
 use Rattle.model.specs.declared.Written.{Written}
 use Rattle.model.specs.declared.Joint.{Joint}
-use Rattle.model.specs.Refusals.{number_of, record_of, differing_task, differing_position, unless, and_then}
+use Rattle.model.specs.Refusals.{number_of, record_of, pairs_of, differing_task, differing_position, unless, and_then}
 use Rattle.model.specs.Recording.{size, tasks}
 use Rattle.model.specs.File.{recording_of}
 use Rattle.model.specs.Reading.{file_check}
@@ -22,7 +22,7 @@ use Rattle.model.specs.Pairs.{listed}
 use Rattle.model.specs.Analysing.{work_check, analysis_check}
 use Rattle.model.specs.Text.{bytes}
 use Rattle.model.specs.Report.{report_by, if_long, is_long, report_of}
-use Rattle.model.specs.Rows.Starred.{of, W, file, B, G, RefusedAlone}
+use Rattle.model.specs.Rows.Starred.{of, W, file, B, G}
 use Rattle.model.specs.Rows.Faults.{Faults}
 use Rattle.model.specs.Rows.Parts.{Parts}
 use Rattle.model.specs.Rows.Raised.{Raised}
@@ -463,5 +463,6 @@ turned = record {
   out_kept = refl;
 }
   where
-    unsure : RefusedAlone Written.Refused (Written.Refused Refusal.Unsure) 15
+    unsure : (r : Refusal) × (Written.Refused Refusal.Unsure ≡ Written.Refused r)
+        × (number_of r ≡ 15) × (record_of r ≡ 0) × (pairs_of r ≡ 0) × (differing_task r ≡ 0) × (differing_position r ≡ 0)
     unsure = (Refusal.Unsure, refl, refl, refl, refl, refl, refl)

@@ -2,57 +2,107 @@
 -- Assumes nothing.
 use Rattle.std.specs.Prelude.{ℕ, Bool, true, false}
 use Rattle.model.specs.declared.Refusal.{Refusal}
-use Rattle.model.specs.declared.Details.{Details}
 use Rattle.model.specs.declared.Check.{Check}
 
--- a refusal by this number, the fault of a record
-abbrev pub at_record : ℕ → ℕ → Details
-at_record n e = record { number = n; fault = e; pairs = 0; task = 0; position = 0 }
-
--- a refusal by this number that is no record's fault
-abbrev pub alone : ℕ → Details
-alone n = at_record n 0
-
--- the table: a refusal's number and the faulty record; the pairs needed, which 10 also returns; the task that differs and its first
--- position that does, which 14 also returns; 0 for what it does not return
-abbrev pub details_of : Refusal → Details
-details_of Refusal.Short = alone 1
-details_of Refusal.Edition = alone 2
-details_of Refusal.Extent = alone 3
-details_of Refusal.Count = alone 4
-details_of (Refusal.Kind e) = at_record 5 e
-details_of (Refusal.Name e) = at_record 6 e
-details_of (Refusal.Life e) = at_record 7 e
-details_of (Refusal.Empty e) = at_record 8 e
-details_of Refusal.Work = alone 9
-details_of (Refusal.List n) = record { number = 10; fault = 0; pairs = n; task = 0; position = 0 }
-details_of Refusal.Event = alone 11
-details_of Refusal.Out = alone 12
-details_of Refusal.Starts = alone 13
-details_of (Refusal.Differ t p) = record { number = 14; fault = 0; pairs = 0; task = t; position = p }
-details_of Refusal.Unsure = alone 15
-details_of (Refusal.Flag e) = at_record 16 e
-details_of Refusal.Stretch = alone 17
-
--- the number of a refusal
+-- the number of each refusal in the table
 abbrev pub number_of : Refusal → ℕ
-number_of r = (details_of r).number
+number_of Refusal.Short = 1
+number_of Refusal.Edition = 2
+number_of Refusal.Extent = 3
+number_of Refusal.Count = 4
+number_of (Refusal.Kind e) = 5
+number_of (Refusal.Name e) = 6
+number_of (Refusal.Life e) = 7
+number_of (Refusal.Empty e) = 8
+number_of Refusal.Work = 9
+number_of (Refusal.List n) = 10
+number_of Refusal.Event = 11
+number_of Refusal.Out = 12
+number_of Refusal.Starts = 13
+number_of (Refusal.Differ t p) = 14
+number_of Refusal.Unsure = 15
+number_of (Refusal.Flag e) = 16
+number_of Refusal.Stretch = 17
 
 -- the faulty record; 0 where no record is at fault
 abbrev pub record_of : Refusal → ℕ
-record_of r = (details_of r).fault
+record_of Refusal.Short = 0
+record_of Refusal.Edition = 0
+record_of Refusal.Extent = 0
+record_of Refusal.Count = 0
+record_of (Refusal.Kind e) = e
+record_of (Refusal.Name e) = e
+record_of (Refusal.Life e) = e
+record_of (Refusal.Empty e) = e
+record_of Refusal.Work = 0
+record_of (Refusal.List n) = 0
+record_of Refusal.Event = 0
+record_of Refusal.Out = 0
+record_of Refusal.Starts = 0
+record_of (Refusal.Differ t p) = 0
+record_of Refusal.Unsure = 0
+record_of (Refusal.Flag e) = e
+record_of Refusal.Stretch = 0
 
--- the pairs needed
+-- the pairs needed, which 10 also returns
 abbrev pub pairs_of : Refusal → ℕ
-pairs_of r = (details_of r).pairs
+pairs_of Refusal.Short = 0
+pairs_of Refusal.Edition = 0
+pairs_of Refusal.Extent = 0
+pairs_of Refusal.Count = 0
+pairs_of (Refusal.Kind e) = 0
+pairs_of (Refusal.Name e) = 0
+pairs_of (Refusal.Life e) = 0
+pairs_of (Refusal.Empty e) = 0
+pairs_of Refusal.Work = 0
+pairs_of (Refusal.List n) = n
+pairs_of Refusal.Event = 0
+pairs_of Refusal.Out = 0
+pairs_of Refusal.Starts = 0
+pairs_of (Refusal.Differ t p) = 0
+pairs_of Refusal.Unsure = 0
+pairs_of (Refusal.Flag e) = 0
+pairs_of Refusal.Stretch = 0
 
--- the task that differs
+-- the task that differs, which 14 also returns
 abbrev pub differing_task : Refusal → ℕ
-differing_task r = (details_of r).task
+differing_task Refusal.Short = 0
+differing_task Refusal.Edition = 0
+differing_task Refusal.Extent = 0
+differing_task Refusal.Count = 0
+differing_task (Refusal.Kind e) = 0
+differing_task (Refusal.Name e) = 0
+differing_task (Refusal.Life e) = 0
+differing_task (Refusal.Empty e) = 0
+differing_task Refusal.Work = 0
+differing_task (Refusal.List n) = 0
+differing_task Refusal.Event = 0
+differing_task Refusal.Out = 0
+differing_task Refusal.Starts = 0
+differing_task (Refusal.Differ t p) = t
+differing_task Refusal.Unsure = 0
+differing_task (Refusal.Flag e) = 0
+differing_task Refusal.Stretch = 0
 
 -- and its first position that does
 abbrev pub differing_position : Refusal → ℕ
-differing_position r = (details_of r).position
+differing_position Refusal.Short = 0
+differing_position Refusal.Edition = 0
+differing_position Refusal.Extent = 0
+differing_position Refusal.Count = 0
+differing_position (Refusal.Kind e) = 0
+differing_position (Refusal.Name e) = 0
+differing_position (Refusal.Life e) = 0
+differing_position (Refusal.Empty e) = 0
+differing_position Refusal.Work = 0
+differing_position (Refusal.List n) = 0
+differing_position Refusal.Event = 0
+differing_position Refusal.Out = 0
+differing_position Refusal.Starts = 0
+differing_position (Refusal.Differ t p) = p
+differing_position Refusal.Unsure = 0
+differing_position (Refusal.Flag e) = 0
+differing_position Refusal.Stretch = 0
 
 -- Tests are made in the table's order, and what follows a test is computed only where it passes.
 

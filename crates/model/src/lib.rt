@@ -1,7 +1,9 @@
 // The plain types of the trace analyser, and the numbers that stand for its refusals and answers.
 // What a recording means, what analysing answers and what is promised is defined in specs/.
+#![tactic(auto)]
+
 ghost use Rattle.std.specs.Prelude.{◌≡◌};
-ghost use Rattle.model.specs.Refusals.{at_record, alone, details_of, number_of, record_of, pairs_of, differing_task, differing_position};
+ghost use Rattle.model.specs.Refusals.{number_of, record_of, pairs_of, differing_task, differing_position};
 ghost use Rattle.model.specs.Question.{relation_number};
 
 // The kinds of records.
@@ -47,7 +49,7 @@ pub const WITH_FLAGS: u16 = 3;
 pub const MOST_BYTES: usize = 16384;
 
 // An event is one record of a recording.
-#[derive(Drop)]
+#[derive(Clone, Copy)]
 pub struct Event {
     pub task: u8,
     pub kind: u8,
@@ -56,7 +58,7 @@ pub struct Event {
 
 // How many tasks, semaphores and cells a recording names, and the edition of its file. `semaphores` is the field of the file: in
 // edition 3 its low byte counts semaphores and its high byte flags.
-#[derive(Drop)]
+#[derive(Clone, Copy)]
 pub struct Counts {
     pub tasks: u16,
     pub semaphores: u16,
@@ -65,7 +67,7 @@ pub struct Counts {
 }
 
 // The trailer of a file: where its first record starts, how many records it has, and its counts.
-#[derive(Drop)]
+#[derive(Clone, Copy)]
 pub struct Trailer {
     pub start: usize,
     pub records: usize,
@@ -73,7 +75,7 @@ pub struct Trailer {
 }
 
 // What an object names.
-#[derive(Drop)]
+#[derive(Clone, Copy)]
 pub enum Class {
     Nothing,
     Semaphore,
@@ -83,7 +85,7 @@ pub enum Class {
 }
 
 // An event that was looked for.
-#[derive(Drop)]
+#[derive(Clone, Copy)]
 pub enum Found {
     At(usize),
     Nothing,
@@ -91,7 +93,7 @@ pub enum Found {
 
 // A refusal, by its word in the table: with the faulty record, with the pairs that the list should hold, or with the task and the
 // position at which two recordings differ.
-#[derive(Drop)]
+#[derive(Clone, Copy)]
 pub enum Refusal {
     Short,
     Edition,
@@ -113,35 +115,35 @@ pub enum Refusal {
 }
 
 // The outcome of a check.
-#[derive(Drop)]
+#[derive(Clone, Copy)]
 pub enum Check {
     Passed,
     Failed(Refusal),
 }
 
 // The answer to reading a file.
-#[derive(Drop)]
+#[derive(Clone, Copy)]
 pub enum Reading {
     Accepted(Trailer),
     Refused(Refusal),
 }
 
 // What a step of a walk yields.
-#[derive(Drop)]
+#[derive(Clone, Copy)]
 pub enum Item {
     Event(Event),
     End,
 }
 
 // A step of a walk: what it yields, and the number of the next record.
-#[derive(Drop)]
+#[derive(Clone, Copy)]
 pub struct Step {
     pub item: Item,
     pub next: usize,
 }
 
 // The answer to analysing a file.
-#[derive(Drop)]
+#[derive(Clone, Copy)]
 pub enum Analysis {
     Done {
         passes: u32,
@@ -152,7 +154,7 @@ pub enum Analysis {
 }
 
 // How two events a and b stand to each other.
-#[derive(Drop)]
+#[derive(Clone, Copy)]
 pub enum Relation {
     First,
     Second,
@@ -161,128 +163,94 @@ pub enum Relation {
 }
 
 // The answer to a question about two events.
-#[derive(Drop)]
+#[derive(Clone, Copy)]
 pub enum Answer {
     Related(Relation),
     Refused(Refusal),
 }
 
 // The answer to holding two recordings of one job together: how many pairs their one list has.
-#[derive(Drop)]
+#[derive(Clone, Copy)]
 pub enum Joint {
     Pairs(usize),
     Refused(Refusal),
 }
 
 // The answer to writing a file.
-#[derive(Drop)]
+#[derive(Clone, Copy)]
 pub enum Written {
     Length(usize),
     Refused(Refusal),
 }
 
-// What a refusal tells: its number in the table, the faulty record, the pairs that the list should have held, and the task and the
-// position at which two recordings differ; 0 where there is none.
-#[derive(Drop)]
-struct Details {
-    number: u8,
-    fault: usize,
-    pairs: usize,
-    task: u16,
-    position: u16,
-}
-
-// A refusal by this number, the fault of a record.
-fn at_record(number: u8, fault: usize) -> Details
-    ensures { result ≡ at_record number fault }
-{
-    Details {
-        number,
-        fault,
-        pairs: 0,
-        task: 0,
-        position: 0,
-    }
-}
-
-// A refusal by this number that is no record's fault.
-fn alone(number: u8) -> Details
-    ensures { result ≡ alone number }
-{
-    at_record(number, 0)
-}
-
 impl Refusal {
-    // The table: what each refusal tells.
-    fn details(self) -> Details
-        ensures { result ≡ details_of self }
-    {
-        match self {
-            Refusal::Short => alone(1),
-            Refusal::Edition => alone(2),
-            Refusal::Extent => alone(3),
-            Refusal::Count => alone(4),
-            Refusal::Kind(e) => at_record(5, e),
-            Refusal::Name(e) => at_record(6, e),
-            Refusal::Life(e) => at_record(7, e),
-            Refusal::Empty(e) => at_record(8, e),
-            Refusal::Work => alone(9),
-            Refusal::List(n) => Details {
-                number: 10,
-                fault: 0,
-                pairs: n,
-                task: 0,
-                position: 0,
-            },
-            Refusal::Event => alone(11),
-            Refusal::Out => alone(12),
-            Refusal::Starts => alone(13),
-            Refusal::Differ { task, position } => Details {
-                number: 14,
-                fault: 0,
-                pairs: 0,
-                task,
-                position,
-            },
-            Refusal::Unsure => alone(15),
-            Refusal::Flag(e) => at_record(16, e),
-            Refusal::Stretch => alone(17),
-        }
-    }
-
     // The number of the refusal in the table.
     pub fn number(self) -> u8
         ensures { result ≡ number_of self }
     {
-        self.details().number
+        match self {
+            Refusal::Short => 1,
+            Refusal::Edition => 2,
+            Refusal::Extent => 3,
+            Refusal::Count => 4,
+            Refusal::Kind(_) => 5,
+            Refusal::Name(_) => 6,
+            Refusal::Life(_) => 7,
+            Refusal::Empty(_) => 8,
+            Refusal::Work => 9,
+            Refusal::List(_) => 10,
+            Refusal::Event => 11,
+            Refusal::Out => 12,
+            Refusal::Starts => 13,
+            Refusal::Differ { .. } => 14,
+            Refusal::Unsure => 15,
+            Refusal::Flag(_) => 16,
+            Refusal::Stretch => 17,
+        }
     }
 
     // The faulty record; 0 where no record is at fault.
     pub fn record(self) -> usize
         ensures { result ≡ record_of self }
     {
-        self.details().fault
+        match self {
+            Refusal::Kind(e) => e,
+            Refusal::Name(e) => e,
+            Refusal::Life(e) => e,
+            Refusal::Empty(e) => e,
+            Refusal::Flag(e) => e,
+            _ => 0,
+        }
     }
 
     // The pairs that a list should have held; 0 for another refusal.
     pub fn pairs(self) -> usize
         ensures { result ≡ pairs_of self }
     {
-        self.details().pairs
+        match self {
+            Refusal::List(n) => n,
+            _ => 0,
+        }
     }
 
     // The task at which two recordings differ; 0 for another refusal.
     pub fn task(self) -> u16
         ensures { result ≡ differing_task self }
     {
-        self.details().task
+        match self {
+            Refusal::Differ { task, .. } => task,
+            _ => 0,
+        }
     }
 
     // The position in that task; 0 for another refusal.
     pub fn position(self) -> u16
         ensures { result ≡ differing_position self }
     {
-        self.details().position
+        match self {
+            Refusal::Differ { position, .. } => position,
+            _ => 0,
+        }
     }
 }
 

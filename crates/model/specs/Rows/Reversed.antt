@@ -2,10 +2,12 @@
 -- run orders, which refusal is answered where two apply, and what is left in the lent memory.
 -- Proved as `turned` in proofs/Rows.antt. Assumes nothing.
 use Rattle.std.specs.Prelude.{ℕ, ◌+◌, ◌≡◌, List, [], ◌∷◌, ◌++◌}
+use Rattle.model.specs.declared.Refusal.{Refusal}
 use Rattle.model.specs.declared.Written.{Written}
+use Rattle.model.specs.Refusals.{number_of, record_of, pairs_of, differing_task, differing_position}
 use Rattle.model.specs.Analysing.{work_after_analysing}
 use Rattle.model.specs.Reversed.{reversed_of, work_after_reversing, out_after_reversing}
-use Rattle.model.specs.Rows.Starred.{W, R, S, P, Fork, Join, file, A, B, C, E, G, I, work, RefusedAs, RefusedAlone}
+use Rattle.model.specs.Rows.Starred.{W, R, S, P, Fork, Join, file, A, B, C, E, G, I, work, RefusedAs}
 use Rattle.model.specs.Rows.Started.{pool}
 use Rattle.model.specs.Rows.Faults.{trailer}
 use Rattle.model.specs.Rows.Flagged.{Post, Await, kernel, after, either, sooner}
@@ -16,9 +18,11 @@ use Rattle.model.specs.Rows.Lent.{A_start, A_raised}
 abbrev pub Writes : List ℕ → ℕ → ℕ → ℕ → List ℕ → Type 0
 Writes f x y n g = (reversed_of f x y work (lent (n + 2)) ≡ Written.Length n) × (out_after_reversing f x y work (lent (n + 2)) ≡ g ++ lent 2)
 
--- it is refused by 15
+-- it is refused by 15, which is no record's fault and needs no pairs, and no task differs
 abbrev pub Unsure : List ℕ → ℕ → ℕ → Type 0
-Unsure f x y = RefusedAlone Written.Refused (reversed_of f x y work (lent 40)) 15
+Unsure f x y =
+    (r : Refusal) × (reversed_of f x y work (lent 40) ≡ Written.Refused r)
+    × (number_of r ≡ 15) × (record_of r ≡ 0) × (pairs_of r ≡ 0) × (differing_task r ≡ 0) × (differing_position r ≡ 0)
 
 -- with m work numbers and k output bytes it is refused by this number at this record
 abbrev pub Refused : List ℕ → ℕ → ℕ → ℕ → ℕ → ℕ → ℕ → Type 0
