@@ -1,4 +1,6 @@
 // Vectors in one lent slice of work numbers, event by event, `tasks` numbers each. No event and no file is known here.
+#![tactic(auto)]
+
 ghost use Rattle.std.specs.Prelude.{ℕ, ◌+◌, ◌*◌, ◌≤◌, ◌<◌, max, ◌≡◌, ◌++◌, length, get_or, set, drop, leb};
 ghost use Rattle.std.proofs.lemmas.List.Edits.{sets};
 ghost use Rattle.model.specs.Numbers.{count, kth_least};

@@ -9,12 +9,11 @@ use Rattle.vectors.specs.Rows.{column}
 use Rattle.vectors.proofs.Chunks.{column_length}
 use Rattle.vectors.proofs.Raised.{raised_none}
 use Rattle.vectors.proofs.Rising.{rose_none}
-use Rattle.vectors.proofs.raise_to_kth.Statement.{statement}
-use Rattle.vectors.proofs.raise_to_kth.Tie as tie
+use Rattle.vectors.proofs.raise_to_kth.Goals as goal
 
-returns : tie.Need-returns
-returns c =
-    let a = c.before.before.before.args in
+pub returns-then-events-k : goal.returns-then-events-k
+returns-then-events-k c =
+    let a = c.args in
     let l = a.v.now in
     let es = a.events.now in
     let g : ℕ → ℕ = λ t. kth_least a.k (column a.tasks l t es) in
@@ -22,13 +21,12 @@ returns c =
     let n = column_length a.tasks l t es in
     let z = kth_few a.k (column a.tasks l t es) (omega arith) in
     omega arith in
-    (sym few, rose_none l)
+    record { v_after = sym few; rose = rose_none l }
 
-pub raise-to-kth-spec : {M : Type 1} → statement M
-raise-to-kth-spec =
-    tie.close
-    (tie.spec
-    returns
-    (λ c κs. ((omega arith, omega arith, omega arith), c.before.before.before.before.requires.1))
-    (λ c. omega arith)
-    (λ c. c.before.before.raise-each.ensures))
+pub raise_each-requires : goal.raise_each-requires
+raise_each-requires c =
+    record { tasks_in_bounds = (omega arith, omega arith, omega arith); by_index = c.requires.by_index }
+
+pub returns : goal.returns
+returns c =
+    c.raise_each.ensures

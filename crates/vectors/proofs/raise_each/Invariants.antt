@@ -1,0 +1,19 @@
+-- raise_each meets its contract: after t turns the first t numbers are raised, and the column that turn t reads is as it was.
+-- Assumes nothing.
+use mathlib.Core.Path.{◌≡◌, refl, sym, ap, ◌∙◌}
+use Prim.Native.Nat.{ℕ, ◌+◌, ◌-◌, ◌*◌, ◌≤◌, ◌<◌, max}
+use native.Mathlib.Omega.{arith}
+use lib.ListN.{length, get_or, length-replicate}
+use Rattle.model.specs.Numbers.{kth_least}
+use Rattle.vectors.specs.Rows.{raised_at, column, Rose}
+use Rattle.vectors.proofs.Raised.{raised_start, raise_turn, column_read, columns_read}
+use Rattle.vectors.proofs.Rising.{rose_none, rose_then}
+use Rattle.vectors.proofs.raise_each.Given as goal
+
+abbrev pub invariant-loop-t : goal.invariant-loop-t
+invariant-loop-t l =
+    (l.t ≤ l.tasks) × (length l.numbers ≡ 1024) × (length l.v ≡ length l.initial.v) × (l.v ≡ raised_at l.initial.v l.at (λ t. kth_least l.k (column l.tasks l.initial.v t l.events)) l.t) × Rose l.initial.v l.v l.changed
+
+abbrev pub decreases-loop-t : goal.decreases-loop-t
+decreases-loop-t l =
+    l.tasks - l.t
