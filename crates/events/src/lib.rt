@@ -1,6 +1,8 @@
 // The records as lent bytes: an event's fields and the tests of an access, searches over the first records, the look back over a
 // part for a task's last record, and what one look at all records keeps of each: positions, sources, chains of the events on one
 // object, and the task order. And the counts: semaphores and flags, and the level bytes, which are start counts and post counts.
+#![tactic(auto)]
+
 ghost use Rattle.std.specs.Prelude.{◌≡◌, ◌+◌, ◌*◌, ◌/◌, ◌≤◌, ◌<◌, eqb, length, get_or, take};
 ghost use Rattle.std.proofs.lemmas.List.Edits.{sets};
 ghost use Rattle.model.specs.Numbers.{last_of};
@@ -205,7 +207,7 @@ pub fn last_on(records: &[u8], n: usize, kind: u8, object: u16) -> Found
 }
 
 // What a look back over a part of the records found, and how many of them it read.
-#[derive(Drop)]
+#[derive(Clone, Copy)]
 pub struct Look {
     pub last: Found,
     pub read: usize,

@@ -1,6 +1,8 @@
 // The bytes of a recording file put into an output: records, level bytes, trailer. The records are lent as they stand, or picked from
 // others in a given order. A crate of its own, since more than one interface crate writes files, and these functions require the room
 // that those have asked for.
+#![tactic(auto)]
+
 ghost use Rattle.std.specs.Prelude.{◌≡◌, ◌++◌, ◌+◌, ◌*◌, ◌/◌, ◌≤◌, length, take, drop};
 ghost use Rattle.model.specs.Writing.{trailer_bytes, file_of, file_length, record_at, records_in, file_in};
 ghost use Rattle.layout.specs.Picks.{Picks};

@@ -1,0 +1,42 @@
+-- `events::gather_tasks` meets its contract: the chains are those of the events from e on. Assumes nothing.
+use mathlib.Core.Path.{◌≡◌}
+use Prim.Native.Nat.{◌+◌, ◌*◌, ◌-◌, ◌/◌, ◌≤◌, ◌<◌}
+use native.Mathlib.Omega.{arith}
+use lib.ListN.{length, get_or}
+use Rattle.model.specs.Recording.{event_in}
+use Rattle.model.specs.File.{events_of}
+use Rattle.events.specs.Chains.{by_task, Chained}
+use Rattle.events.proofs.Laws.{task_at}
+use Rattle.events.proofs.Chains.{start, next_by}
+use Rattle.events.proofs.gather_tasks.Goals as goal
+
+-- the task of the event at hand is a byte
+byte : (c : tie.After-shared-slice-known2 invariant-loop decreases-loop) → get_or c.before.before.before.before.before.args.records.now (4 * (c.before.before.before.loop.e - 1)) 0 < 256
+byte c = omega (arith, c.shared-slice-known2.given (4 * (c.before.before.before.loop.e - 1)))
+
+pub loop-e-init : goal.loop-e-init
+loop-e-init c =
+    (omega arith, start _ _ _ (omega arith))
+
+pub overflow_cast-records : goal.overflow_cast-records
+overflow_cast-records c =
+    omega (arith, byte (goal.at.overflow_cast-records c).After-shared_slice_known-in-loop-e-1)
+
+pub put_first-requires : goal.put_first-requires
+put_first-requires c =
+    (omega (arith, byte (goal.at.put_first-requires c).After-shared_slice_known-in-loop-e-1), omega arith)
+
+pub loop-e-preserved : goal.loop-e-preserved
+loop-e-preserved c =
+    let k = c.loop-e in
+    let s = c.args.records.now in
+    let t = task_at s (k.e - 1) (omega arith) in
+    let e : k.e ≡ k.e - 1 + 1 = omega arith in (
+      omega arith,
+      rw c.put_first.ensures
+          (next_by (λ i. (event_in (events_of s) i).task) _ _ _ _ _ (rw e at k.invariant.1) t (byte (goal.at.loop-e-preserved c).After-shared_slice_known-in-loop-e-1) (omega arith) (omega arith) (omega arith)),
+    )
+
+pub returns : goal.returns
+returns c =
+    let e : c.loop-e.e ≡ 0 = omega arith in rw e at c.loop-e.invariant.1

@@ -1,0 +1,58 @@
+-- `events::kept_forks` meets its contract: kept are the last forks among the first e events. Assumes nothing.
+use mathlib.Core.Path.{◌≡◌, ◌∙◌}
+use mathlib.Core.Logic.{⊎_elim}
+use Prim.Native.Nat.{ℕ, ◌+◌, ◌-◌, ◌/◌, ◌≤◌, ◌<◌}
+use native.Mathlib.Omega.{arith}
+use lib.Dec.{ltb, eqb}
+use lib.ListN.{length, length-set, length-replicate}
+use Rattle.model.specs.Recording.{fork}
+use Rattle.model.specs.File.{events_of}
+use Rattle.model.proofs.Tests.{ltb-true, second}
+use Rattle.events.specs.Kept.{ForksTo}
+use Rattle.events.proofs.Laws.{events_length}
+use Rattle.events.proofs.Kept.{forks_start, forks_same, forks_next}
+use Rattle.events.proofs.kept_forks.Goals as goal
+
+-- the task that is forked is a byte
+byte : (c : tie.After-struct-known3 invariant-loop decreases-loop) → c.before.before.before.before.event_at.result.object < 256
+byte c =
+    let v = c.before.before.before.before.event_at.result in
+    ltb-true v.object 256 (second (eqb v.kind fork) (ltb v.object 256) c.before.if1.true)
+
+pub loop-e-init : goal.loop-e-init
+loop-e-init c =
+    let s = c.args.records.now in
+    (omega arith, length-replicate {A = ℕ} 256 (length s / 4), forks_start (events_of s) (length s / 4) (events_length s))
+
+pub overflow_cast-forks-then-v-2 : goal.overflow_cast-forks-then-v-2
+overflow_cast-forks-then-v-2 c =
+    omega (arith, byte (goal.at.overflow_cast-forks-then-v-2 c).After-struct_known-then-v-1)
+
+pub offset_bounds-forks-v : goal.offset_bounds-forks-v
+offset_bounds-forks-v c =
+    omega (arith, byte (goal.at.offset_bounds-forks-v c).After-struct_known-then-v-1)
+
+pub bounds-forks-v : goal.bounds-forks-v
+bounds-forks-v c =
+    omega (arith, byte (goal.at.bounds-forks-v c).After-struct_known-then-v-1)
+
+pub loop-e-preserved : goal.loop-e-preserved
+loop-e-preserved c =
+    let k = c.loop-e in
+    let s = c.args.records.now in
+    let v = c.event_at-v in
+    let n = events_length s in
+    let kept : (length c.if-v.forks ≡ 256) × ForksTo (events_of s) (k.e + 1) c.if-v.forks =
+    ⊎_ELIM
+    (λ w.
+    rw w.2
+    (length-set k.forks v.result.object k.e ∙ k.invariant.1, forks_next (events_of s) k.e k.forks k.invariant.2 v.result v.ensures k.invariant.1 (omega arith) w.0.taken))
+    (λ w. rw w.1 (k.invariant.1, forks_same (events_of s) k.e k.forks k.invariant.2 v.result v.ensures w.0.left))
+    c.if-v.branch in
+    (omega arith, kept.0, kept.1)
+
+pub returns : goal.returns
+returns c =
+    let k = c.loop-e in
+    let e : k.e ≡ length (events_of c.args.records.now) = omega (arith, events_length c.args.records.now) in
+    rw e at k.invariant.2

@@ -1,0 +1,8 @@
+-- `events::put_first` meets its contract. Assumes nothing.
+use mathlib.Core.Path.{refl}
+use native.Mathlib.Omega.{arith}
+use Rattle.events.proofs.put_first.Goals as goal
+
+pub returns : goal.returns
+returns c =
+    refl

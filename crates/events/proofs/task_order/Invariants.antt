@@ -1,0 +1,24 @@
+-- `events::task_order` meets its contract: put so far are the events of the tasks below `task`. Assumes nothing.
+use mathlib.Core.Path.{◌≡◌, refl, sym}
+use Prim.Native.Nat.{ℕ, ◌-◌, ◌/◌, ◌≤◌}
+use native.Mathlib.Omega.{arith}
+use lib.ListN.{length, replicate, length-replicate}
+use lib.Seq.{sets}
+use Rattle.model.specs.Numbers.{each}
+use Rattle.model.specs.File.{events_of}
+use Rattle.model.specs.Pairs.{own_events}
+use Rattle.events.specs.Chains.{by_task, Chained}
+use Rattle.events.proofs.Laws.{events_length}
+use Rattle.events.proofs.Order.{task_room, task_next, whole_order}
+use Rattle.events.proofs.task_order.Given as goal
+
+abbrev pub invariant-loop-task : goal.invariant-loop-task
+invariant-loop-task l =
+    (l.task ≤ l.tasks)
+    × Chained (by_task l.records) (length l.records / 4) 256 0 l.chain
+    × (l.order ≡ sets (replicate 1024 0) 0 (each (own_events (events_of l.records)) l.task))
+    × (l.at ≡ length (each (own_events (events_of l.records)) l.task))
+
+abbrev pub decreases-loop-task : goal.decreases-loop-task
+decreases-loop-task l =
+    l.tasks - l.task

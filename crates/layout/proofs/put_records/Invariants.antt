@@ -1,0 +1,19 @@
+-- `layout::put_records` meets its contract. The invariant: the first i records of the order stand at the front, and the rest of the
+-- output is as it was. The measure is what is left of the order. Assumes nothing.
+use mathlib.Core.Path.{◌≡◌, refl}
+use mathlib.Core.List.{◌++◌}
+use Prim.Native.Nat.{◌*◌, ◌≤◌, ◌-◌}
+use native.Mathlib.Omega.{arith}
+use lib.ListN.{length, take, drop}
+use lib.Seq.{take-length}
+use Rattle.model.specs.Writing.{records_in}
+use Rattle.layout.proofs.Copies.{none_picked, next_picked}
+use Rattle.layout.proofs.put_records.Given as goal
+
+abbrev pub invariant-loop-i : goal.invariant-loop-i
+invariant-loop-i l =
+    (l.i ≤ length l.order) × (length l.out ≡ length l.initial.out) × (l.out ≡ records_in l.records (take l.i l.order) ++ drop (4 * l.i) l.initial.out)
+
+abbrev pub decreases-loop-i : goal.decreases-loop-i
+decreases-loop-i l =
+    length l.order - l.i
