@@ -1,4 +1,6 @@
 // Whether two recordings are the same work, and which event of the second stands for which of the first.
+#![tactic(auto)]
+
 ghost use Rattle.std.specs.Prelude.{◌≡◌, ℕ, ◌*◌, ◌≤◌, ◌<◌, length};
 ghost use Rattle.model.specs.File.{events_of, recording_by};
 ghost use Rattle.model.specs.Reading.{most_tasks, most_events};

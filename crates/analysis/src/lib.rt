@@ -1,4 +1,6 @@
 // Analysing a recording file, and questions about two of its events.
+#![tactic(auto)]
+
 ghost use Rattle.std.specs.Prelude.{◌≡◌};
 ghost use Rattle.model.specs.Recording.{Recording, size};
 ghost use Rattle.model.specs.Reading.{reading_of};

@@ -1,5 +1,5 @@
 -- Laws of the running counts: what one more at a place changes, how the state starts and goes on, and that it gives a position. Assumes nothing.
-use mathlib.Core.Path.{◌≡◌, refl, sym, ap, ◌∙◌}
+use mathlib.Core.Path.{◌≡◌, refl, sym, ap, subst, ◌∙◌}
 use mathlib.Core.List.{List}
 use Prim.Native.Nat.{ℕ, zero, suc, ◌+◌, ◌*◌, ◌/◌, ◌≤◌, ◌<◌}
 use native.Mathlib.Nat.{add-zero}
@@ -44,7 +44,9 @@ module _ (s : List ℕ) (n t : ℕ) (own : List ℕ) (r : Running s n own) (l : 
   unfolding position sum
   placed =
       let w = e ∙ sym (task_at s n l) in
-      rw (← w, eq-eqb t t refl, r.owned t b)
+      let here : bit (of_task t (event_in (events_of s) n)) ≡ 1 = ap bit (eq-eqb (event_in (events_of s) n).task t (sym w)) in
+      subst (λ (x : ℕ). get_or own t 0 + 1 ≡ tally (λ a. of_task x (event_in (events_of s) a)) n + bit (of_task x (event_in (events_of s) n))) w
+      (omega (arith, r.owned t b, here))
 
 tally_most : (s : List ℕ) (t n : ℕ) → tally (λ a. of_task t (event_in (events_of s) a)) n ≤ n
 unfolding sum

@@ -1,5 +1,7 @@
 // The functions for callers in C, on numbers and lent slices. Each takes any input, answers 0 or the number of a refusal, and puts
 // its numbers from the front of `told`, as many as there is room for; what is behind them stays. fennrolka.h declares them.
+#![tactic(auto)]
+
 ghost use Rattle.std.specs.Prelude.{◌≡◌, set};
 ghost use Rattle.model.specs.File.{events_of};
 ghost use Rattle.model.specs.Reading.{reading_of};
@@ -11,7 +13,7 @@ ghost use Rattle.fennrolka.specs.Told.{code_of_reading, code_of_looked, code_of_
 use model::{Analysis, Event, Reading, Refusal, Trailer};
 
 // The answer to looking for an event of a file.
-#[derive(Drop)]
+#[derive(Clone, Copy)]
 pub enum Looked {
     At(Event),
     Refused(Refusal),

@@ -1,4 +1,6 @@
 // Conflicts, race pairs and their marks, and the list, over record bytes and lent vectors.
+#![tactic(auto)]
+
 ghost use Rattle.std.specs.Prelude.{◌≡◌, [], ◌∷◌, ◌+◌, ◌*◌, ◌≤◌, ◌<◌, length};
 ghost use Rattle.std.proofs.lemmas.List.Edits.{sets};
 ghost use Rattle.model.specs.File.{recording_by, events_of};
@@ -300,7 +302,7 @@ fn list_all(
 }
 
 // Whether a list had room for its entries, and how many they are.
-#[derive(Drop)]
+#[derive(Clone, Copy)]
 pub struct Listed {
     pub fits: bool,
     pub pairs: usize,

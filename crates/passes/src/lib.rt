@@ -1,5 +1,7 @@
 // Passes and safe vectors over record bytes and lent work numbers. What a call looks up of the records (positions, sources,
 // chains) is lent, and a pass raises only the events that read a vector that has changed.
+#![tactic(auto)]
+
 ghost use Rattle.std.specs.Prelude.{◌+◌, ◌*◌, ◌/◌, ◌%◌, ◌≤◌, ◌<◌, ◌≡◌, [], ◌++◌, length, drop};
 ghost use Rattle.std.proofs.lemmas.List.Edits.{sets};
 ghost use Rattle.model.specs.Numbers.{found};
@@ -19,7 +21,7 @@ use events::{CHAINS, SOURCES};
 use model::{Counts, Event, FLAG_WAIT, Found, MOST_EVENTS, POST, SIGNAL, WAIT};
 
 // How many passes were made, and whether the last one was quiet.
-#[derive(Drop)]
+#[derive(Clone, Copy)]
 pub struct Outcome {
     pub passes: u32,
     pub settled: bool,

@@ -1,5 +1,7 @@
 // The recorded run over record bytes and lent work numbers: each event's vector is made once, in file order, by step 1, for a wait
 // the signal that it is matched with, and for a flag wait the posts that opened its flag.
+#![tactic(auto)]
+
 ghost use Rattle.std.specs.Prelude.{◌+◌, ◌*◌, ◌≤◌, ◌<◌, ◌≡◌, [], ◌++◌, length, take, drop};
 ghost use Rattle.model.specs.File.{events_of, levels_by, recording_by};
 ghost use Rattle.model.specs.Vectors.{flat};

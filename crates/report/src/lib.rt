@@ -1,4 +1,6 @@
 // What the program prints, as bytes in a lent output.
+#![tactic(auto)]
+
 ghost use Rattle.std.specs.Prelude.{◌≡◌};
 ghost use Rattle.model.specs.Report.{report_of, work_after_reporting, list_after_reporting, laid, filling};
 

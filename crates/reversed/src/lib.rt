@@ -1,5 +1,7 @@
 // An order that shows a pair reversed: a recording whose records are those of a file in an admissible order in which a chosen event
 // comes earlier than another one.
+#![tactic(auto)]
+
 ghost use Rattle.std.specs.Prelude.{◌≡◌, ◌+◌, ◌/◌, ◌≤◌, length, take};
 ghost use Rattle.std.proofs.lemmas.List.Edits.{sets};
 ghost use Rattle.model.specs.File.{events_of};

@@ -1,4 +1,6 @@
 // The record check, the same for reading and writing: what a record must obey after those before it, and the first that does not.
+#![tactic(auto)]
+
 ghost use Rattle.std.specs.Prelude.{◌≡◌, true, List, ℕ, ◌*◌, ◌≤◌, ◌<◌, length};
 ghost use Rattle.model.specs.declared.Event.{Event};
 ghost use Rattle.model.specs.Numbers.{count};

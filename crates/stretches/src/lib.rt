@@ -1,4 +1,6 @@
 // A stretch of work before another: which of two stretches of a recording file is before the other.
+#![tactic(auto)]
+
 ghost use Rattle.std.specs.Prelude.{◌≡◌, ◌&&◌, [], ◌+◌, ◌*◌, ◌/◌, ◌<◌, eqb, length};
 ghost use Rattle.model.specs.Recording.{event_in, of_task};
 ghost use Rattle.model.specs.File.{events_of, recording_by};
@@ -13,7 +15,7 @@ ghost use Rattle.stretches.specs.Lent.{is_found, ends_ordered, lead_by_ends, Com
 use model::{Counts, Found, Reading, Refusal, Trailer};
 
 // A stretch of work: a task, with a first and a last position.
-#[derive(Drop)]
+#[derive(Clone, Copy)]
 pub struct Stretch {
     pub task: u16,
     pub first: u16,
@@ -21,7 +23,7 @@ pub struct Stretch {
 }
 
 // Which of two stretches is before the other.
-#[derive(Drop)]
+#[derive(Clone, Copy)]
 pub enum Lead {
     First,
     Second,
@@ -29,7 +31,7 @@ pub enum Lead {
 }
 
 // The answer to comparing two stretches.
-#[derive(Drop)]
+#[derive(Clone, Copy)]
 pub enum Compared {
     Leads(Lead),
     Refused(Refusal),

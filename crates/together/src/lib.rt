@@ -1,5 +1,7 @@
 // Two recordings of one job held together: whether they are the same work, and then their one settled list. An entry names its
 // events by task and position, since the records arrived in different orders, and its mark is sure when either recording makes it so.
+#![tactic(auto)]
+
 ghost use Rattle.std.specs.Prelude.{◌≡◌, [], ◌∷◌, ◌++◌, ◌+◌, ◌*◌, ◌≤◌, ◌<◌, ℕ, max, length, drop};
 ghost use Rattle.std.proofs.lemmas.List.Edits.{sets};
 ghost use Rattle.model.specs.Numbers.{flat_map};

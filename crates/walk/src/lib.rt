@@ -1,4 +1,6 @@
 // A walk over the records of a file.
+#![tactic(auto)]
+
 ghost use Rattle.std.specs.Prelude.{◌≡◌};
 ghost use Rattle.model.specs.Reading.{records_of};
 ghost use Rattle.model.specs.Walking.{step_at};
@@ -23,7 +25,7 @@ pub fn step_at(records: &[u8], next: usize) -> Step
 }
 
 // A walk: the records' part of a file, and the number of the next record.
-#[derive(Drop)]
+#[derive(Clone, Copy)]
 pub struct Walk<'a> {
     pub records: &'a [u8],
     pub next: usize,

@@ -1,6 +1,8 @@
 // The lent work memory of a recording: its size, what fills it (the safe vectors of a run, then the recorded ones), the budget of
 // a run that settles, and what is read off the memory once it is filled. A crate of its own, since more than one interface crate
 // fills such a memory, and these functions require what those have shown.
+#![tactic(auto)]
+
 ghost use Rattle.std.specs.Prelude.{◌≡◌, [], ◌≤◌};
 ghost use Rattle.model.specs.Refusals.{after};
 ghost use Rattle.model.specs.File.{recording_by, events_of};

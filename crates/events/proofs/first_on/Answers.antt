@@ -17,7 +17,7 @@ overflow_add-slot_of c =
 
 pub at_place-requires : goal.at_place-requires
 at_place-requires c =
-    omega (arith, c.slot_of.ensures.1, c.UNKNOWN-well-formed)
+    omega (arith, c.slot_of.ensures.1, c.well_formed)
 
 pub returns : goal.returns
 returns c =

@@ -10,31 +10,30 @@ use Rattle.events.proofs.Laws.{task_at}
 use Rattle.events.proofs.Chains.{start, next_by}
 use Rattle.events.proofs.gather_tasks.Goals as goal
 
--- the task of the event at hand is a byte
-byte : (c : tie.After-shared-slice-known2 invariant-loop decreases-loop) → get_or c.before.before.before.before.before.args.records.now (4 * (c.before.before.before.loop.e - 1)) 0 < 256
-byte c = omega (arith, c.shared-slice-known2.given (4 * (c.before.before.before.loop.e - 1)))
-
 pub loop-e-init : goal.loop-e-init
 loop-e-init c =
     (omega arith, start _ _ _ (omega arith))
 
 pub overflow_cast-records : goal.overflow_cast-records
 overflow_cast-records c =
-    omega (arith, byte (goal.at.overflow_cast-records c).After-shared_slice_known-in-loop-e-1)
+    let byte : get_or c.args.records.now (4 * (c.loop-e.e - 1)) 0 < 256 = omega (arith, c.type_inv.records (4 * (c.loop-e.e - 1))) in
+    omega (arith, byte)
 
 pub put_first-requires : goal.put_first-requires
 put_first-requires c =
-    (omega (arith, byte (goal.at.put_first-requires c).After-shared_slice_known-in-loop-e-1), omega arith)
+    let byte : get_or c.args.records.now (4 * (c.loop-e.e - 1)) 0 < 256 = omega (arith, c.type_inv.records (4 * (c.loop-e.e - 1))) in
+    (omega (arith, byte), omega arith)
 
 pub loop-e-preserved : goal.loop-e-preserved
 loop-e-preserved c =
+    let byte : get_or c.args.records.now (4 * (c.loop-e.e - 1)) 0 < 256 = omega (arith, c.type_inv.records (4 * (c.loop-e.e - 1))) in
     let k = c.loop-e in
     let s = c.args.records.now in
     let t = task_at s (k.e - 1) (omega arith) in
     let e : k.e ≡ k.e - 1 + 1 = omega arith in (
       omega arith,
       rw c.put_first.ensures
-          (next_by (λ i. (event_in (events_of s) i).task) _ _ _ _ _ (rw e at k.invariant.1) t (byte (goal.at.loop-e-preserved c).After-shared_slice_known-in-loop-e-1) (omega arith) (omega arith) (omega arith)),
+          (next_by (λ i. (event_in (events_of s) i).task) _ _ _ _ _ (rw e at k.invariant.1) t (byte) (omega arith) (omega arith) (omega arith)),
     )
 
 pub returns : goal.returns

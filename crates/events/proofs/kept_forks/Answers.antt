@@ -12,12 +12,7 @@ use Rattle.events.specs.Kept.{ForksTo}
 use Rattle.events.proofs.Laws.{events_length}
 use Rattle.events.proofs.Kept.{forks_start, forks_same, forks_next}
 use Rattle.events.proofs.kept_forks.Goals as goal
-
--- the task that is forked is a byte
-byte : (c : tie.After-struct-known3 invariant-loop decreases-loop) → c.before.before.before.before.event_at.result.object < 256
-byte c =
-    let v = c.before.before.before.before.event_at.result in
-    ltb-true v.object 256 (second (eqb v.kind fork) (ltb v.object 256) c.before.if1.true)
+use Rattle.events.proofs.kept_forks.Goals.{then-v, else-v}
 
 pub loop-e-init : goal.loop-e-init
 loop-e-init c =
@@ -26,15 +21,21 @@ loop-e-init c =
 
 pub overflow_cast-forks-then-v-2 : goal.overflow_cast-forks-then-v-2
 overflow_cast-forks-then-v-2 c =
-    omega (arith, byte (goal.at.overflow_cast-forks-then-v-2 c).After-struct_known-then-v-1)
+    let byte : c.event_at-v.result.object < 256 = let v = c.event_at-v.result in
+    ltb-true v.object 256 (second (eqb v.kind fork) (ltb v.object 256) c.if-v.true) in
+    omega (arith, byte)
 
 pub offset_bounds-forks-v : goal.offset_bounds-forks-v
 offset_bounds-forks-v c =
-    omega (arith, byte (goal.at.offset_bounds-forks-v c).After-struct_known-then-v-1)
+    let byte : c.event_at-v.result.object < 256 = let v = c.event_at-v.result in
+    ltb-true v.object 256 (second (eqb v.kind fork) (ltb v.object 256) c.if-v.true) in
+    omega (arith, byte)
 
 pub bounds-forks-v : goal.bounds-forks-v
 bounds-forks-v c =
-    omega (arith, byte (goal.at.bounds-forks-v c).After-struct_known-then-v-1)
+    let byte : c.event_at-v.result.object < 256 = let v = c.event_at-v.result in
+    ltb-true v.object 256 (second (eqb v.kind fork) (ltb v.object 256) c.if-v.true) in
+    omega (arith, byte)
 
 pub loop-e-preserved : goal.loop-e-preserved
 loop-e-preserved c =
@@ -43,12 +44,12 @@ loop-e-preserved c =
     let v = c.event_at-v in
     let n = events_length s in
     let kept : (length c.if-v.forks ≡ 256) × ForksTo (events_of s) (k.e + 1) c.if-v.forks =
-    ⊎_ELIM
-    (λ w.
-    rw w.2
-    (length-set k.forks v.result.object k.e ∙ k.invariant.1, forks_next (events_of s) k.e k.forks k.invariant.2 v.result v.ensures k.invariant.1 (omega arith) w.0.taken))
-    (λ w. rw w.1 (k.invariant.1, forks_same (events_of s) k.e k.forks k.invariant.2 v.result v.ensures w.0.left))
-    c.if-v.branch in
+    elim c.if-v.branch [
+      | then-v w ↦
+          rw w.forks-is
+          (length-set k.forks v.result.object k.e ∙ k.invariant.1, forks_next (events_of s) k.e k.forks k.invariant.2 v.result v.ensures k.invariant.1 (omega arith) w.if-v.true)
+      | else-v w ↦ rw w.forks-is (k.invariant.1, forks_same (events_of s) k.e k.forks k.invariant.2 v.result v.ensures w.if-v.false)
+    ] in
     (omega arith, kept.0, kept.1)
 
 pub returns : goal.returns

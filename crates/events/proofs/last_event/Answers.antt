@@ -18,17 +18,17 @@ pub returns-then-is_of_task : goal.returns-then-is_of_task
 returns-then-is_of_task c =
     let k = c.loop-left in
     let a = c.args in
-    let hit = last_here _ k.false _ _ (omega arith) c.is_of_task.ensures c.if-is_of_task.true ∙ k.invariant.1 in
+    let hit = last_here _ k.left _ _ (omega arith) c.is_of_task.ensures c.if-is_of_task.true ∙ k.invariant.1 in
     record { last_value = hit; read_value = omega (arith, read_to (events_of a.part.now) a.task _ hit, events_length a.part.now) }
 
 pub loop-left-preserved : goal.loop-left-preserved
 loop-left-preserved c =
     let k = c.loop-left in
-    (omega arith, last_lower _ k.false _ _ (omega arith) c.is_of_task.ensures c.if-is_of_task.false ∙ k.invariant.1)
+    (omega arith, last_lower _ k.left _ _ (omega arith) c.is_of_task.ensures c.if-is_of_task.false ∙ k.invariant.1)
 
 pub returns : goal.returns
 returns c =
     let k = c.loop-left in
     let a = c.args in
-    let none = last_none _ k.false (omega arith) ∙ k.invariant.1 in
+    let none = last_none _ k.left (omega arith) ∙ k.invariant.1 in
     record { last_value = none; read_value = omega (arith, read_to (events_of a.part.now) a.task _ none, events_length a.part.now) }

@@ -18,42 +18,47 @@ loop-e-init c =
 
 pub overflow_cast-task : goal.overflow_cast-task
 overflow_cast-task c =
-    omega (arith, task-byte (goal.at.overflow_cast-task c).After-shared_slice_known-1-unread-2)
+    let byte : get_or c.args.records.now (4 * c.loop-e.e) 0 < 256 = omega (arith, c.type_inv.records (4 * c.loop-e.e)) in
+    omega arith
 
 pub offset_bounds-own-task : goal.offset_bounds-own-task
 offset_bounds-own-task c =
-    omega (arith, task-byte (goal.at.offset_bounds-own-task c).After-shared_slice_known-1-unread-2)
+    let byte : get_or c.args.records.now (4 * c.loop-e.e) 0 < 256 = omega (arith, c.type_inv.records (4 * c.loop-e.e)) in
+    omega arith
 
--- the task of the event at hand is a byte
 pub bounds-own-task : goal.bounds-own-task
 bounds-own-task c =
-    omega (arith, c.type_inv.records (4 * c.loop-e.e))
+    let byte : get_or c.args.records.now (4 * c.loop-e.e) 0 < 256 = omega (arith, c.type_inv.records (4 * c.loop-e.e)) in
+    byte
 
 pub overflow_add-at : goal.overflow_add-at
 overflow_add-at c =
+    let byte : get_or c.args.records.now (4 * c.loop-e.e) 0 < 256 = omega (arith, c.type_inv.records (4 * c.loop-e.e)) in
     let k = c.loop-e in
     let a = c.args in
-    omega (arith, few a.records.now k.e k.own k.invariant.2 (get_or a.records.now (4 * k.e) 0) (task-byte (goal.at.overflow_add-at c).After-shared_slice_known-1))
+    omega (arith, few a.records.now k.e k.own k.invariant.2 (get_or a.records.now (4 * k.e) 0) (byte))
 
 pub offset_bounds-own-task-in-loop-e : goal.offset_bounds-own-task-in-loop-e
 offset_bounds-own-task-in-loop-e c =
-    omega (arith, task-byte (goal.at.offset_bounds-own-task-in-loop-e c).After-shared_slice_known-1)
+    let byte : get_or c.args.records.now (4 * c.loop-e.e) 0 < 256 = omega (arith, c.type_inv.records (4 * c.loop-e.e)) in
+    omega arith
 
--- the task of the event at hand is a byte
 pub bounds-own-task-in-loop-e : goal.bounds-own-task-in-loop-e
 bounds-own-task-in-loop-e c =
-    omega (arith, c.type_inv.records (4 * c.loop-e.e))
+    let byte : get_or c.args.records.now (4 * c.loop-e.e) 0 < 256 = omega (arith, c.type_inv.records (4 * c.loop-e.e)) in
+    byte
 
 pub loop-e-preserved : goal.loop-e-preserved
 loop-e-preserved c =
+    let byte : get_or c.args.records.now (4 * c.loop-e.e) 0 < 256 = omega (arith, c.type_inv.records (4 * c.loop-e.e)) in
     let s = c.args.records.now in
     let k = c.loop-e in
     let t = get_or s (4 * k.e) 0 in (
       omega arith,
       simp length-set k.invariant.1,
-      next s k.e t k.own k.invariant.2 (omega arith) refl (task-byte (goal.at.loop-e-preserved c).After-shared_slice_known-1),
+      next s k.e t k.own k.invariant.2 (omega arith) refl (byte),
       kept_next (λ i a. a ≡ position (events_of s) i) k.positions k.e _ (omega arith) k.invariant.3
-          (placed s k.e t k.own k.invariant.2 (omega arith) refl (task-byte (goal.at.loop-e-preserved c).After-shared_slice_known-1)),
+          (placed s k.e t k.own k.invariant.2 (omega arith) refl (byte)),
     )
 
 pub returns : goal.returns

@@ -52,14 +52,14 @@ loop-e-preserved c =
     let n = length s / 4 in
     let l = events_of s in
     let k = c.loop-e in
-    let x = c.UNKNOWN-number_of_lem in
+    let x = c.number_of in
     let y = c.number_of-in-loop-e in
     let z = c.number_of-in-loop-e-2 in (
       omega arith,
       simp length-set k.invariant.1,
-      λ a. three_kept (λ _ b. b ≤ n) k.auto k.e x.result y.result z.result (omega arith) x.ensures.1 y.ensures.1 z.ensures.1 a (λ _. k.invariant.2 a),
+      λ a. three_kept (λ _ b. b ≤ n) k.kept k.e x.result y.result z.result (omega arith) x.ensures.1 y.ensures.1 z.ensures.1 a (λ _. k.invariant.2 a),
       λ a h.
-          three_kept (λ i b. found_below n b ≡ source_of l (i / 3) (i % 3)) k.auto k.e x.result y.result z.result (omega arith)
+          three_kept (λ i b. found_below n b ≡ source_of l (i / 3) (i % 3)) k.kept k.e x.result y.result z.result (omega arith)
           (source_at l k.e 0 (3 * k.e) _ _ (omega arith) (omega arith) x.ensures.0 c.before_or_fork.ensures.0)
           (source_at l k.e 1 _ _ _ refl (omega arith) y.ensures.0 c.join_fork.ensures.0)
           (source_at l k.e 2 _ _ _ refl (omega arith) z.ensures.0 c.join_last.ensures.0)
@@ -73,5 +73,5 @@ returns c =
     let n = events_length s in
     record {
       low = λ a. rw n (k.invariant.2 a);
-      source = λ a l. subst (λ (m : ℕ). found_below m (get_or k.auto a 0) ≡ source_of (events_of s) (a / 3) (a % 3)) (sym n) (k.invariant.3 a (omega arith));
+      source = λ a l. subst (λ (m : ℕ). found_below m (get_or k.kept a 0) ≡ source_of (events_of s) (a / 3) (a % 3)) (sym n) (k.invariant.3 a (omega arith));
     }
