@@ -1,0 +1,48 @@
+-- start meets its contract: to write the later rows over what is there gives the whole.
+-- Assumes nothing.
+use mathlib.Core.Path.{◌≡◌, refl, ◌∙◌}
+use mathlib.Core.List.{[]}
+use Prim.Native.Nat.{◌+◌, ◌-◌, ◌≤◌, ◌<◌}
+use native.Mathlib.Omega.{arith}
+use borrow.Author.Rules.{rules}
+use lib.ListN.{length}
+use lib.Seq.{sets}
+use Rattle.model.specs.Recording.{size}
+use Rattle.model.specs.File.{recording_by}
+use Rattle.model.specs.Vectors.{flat, start}
+use Rattle.passes.proofs.Starts.{rows_from, rows_start, rows_end, start_length, row_fits, row_stored, start_stored}
+use Rattle.passes.proofs.start.Goals as goal
+
+pub loop-e-init : goal.loop-e-init
+loop-e-init c =
+    let E = recording_by c.args.records.now c.args.counts [] in
+    rw (rows_start E) (omega arith, refl, refl, omega (arith, start_length E, c.requires.1))
+
+pub start_event-requires : goal.start_event-requires
+start_event-requires c =
+    let k = c.loop-e in
+    let E = recording_by c.args.records.now c.args.counts [] in
+    let h : k.e < size E = omega (arith, c.requires.0.records.whole) in
+    (c.requires.0, h, omega (arith, row_fits E k.e h))
+
+pub overflow_add-from : goal.overflow_add-from
+overflow_add-from c =
+    let k = c.loop-e in
+    let E = recording_by c.args.records.now c.args.counts [] in
+    let h : k.e < size E = omega (arith, c.requires.0.records.whole) in
+    omega (arith, row_fits E k.e h)
+
+pub loop-e-preserved : goal.loop-e-preserved
+loop-e-preserved c =
+    let k = c.loop-e in
+    let f = c.start_event in
+    let E = recording_by c.args.records.now c.args.counts [] in
+    let h : k.e < size E = omega (arith, c.requires.0.records.whole) in
+    let r = row_stored E k.e h k.v f.new.v k.from f.ensures in
+    (omega arith, f.auto.v ∙ k.invariant.1, r.0 ∙ k.invariant.2, r.1 ∙ k.invariant.3)
+
+pub returns : goal.returns
+returns c =
+    let k = c.loop-e in
+    let E = recording_by c.args.records.now c.args.counts [] in
+    rw (rows_end E k.e (omega (arith, c.requires.0.records.whole))) at k.invariant.2 ∙ start_stored E c.args.v.now c.requires.1

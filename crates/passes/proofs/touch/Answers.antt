@@ -1,0 +1,8 @@
+-- touch meets its contract. Assumes nothing.
+use native.Mathlib.Omega.{arith}
+use borrow.Author.Rules.{rules}
+use Rattle.passes.proofs.touch.Goals as goal
+
+pub returns : goal.returns
+returns c =
+    rw (c.slot_of.ensures.0, c.event_at-v.ensures)
