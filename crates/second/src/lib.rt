@@ -5,6 +5,8 @@
 // stretches each event is held against each. It is proved safe and to end, with one plain fact of each
 // call: its refusal's number is one of the table, or for a look, how many records it read at most. That
 // the numbers are right is not proved: the trial compares them with the library's.
+#![tactic(auto)]
+
 ghost use Rattle.std.specs.Prelude.{◌≡◌, ◌/◌, ◌≤◌, length};
 
 mod both;
@@ -23,7 +25,7 @@ use vectors::{before, unordered};
 
 // What a reading gives: a refusal's number and record; or 0, what the trailer says, and how many start
 // bytes stand before it; there are as many post bytes as flags.
-#[derive(Drop)]
+#[derive(Clone, Copy)]
 pub struct Reading {
     pub refusal: u16,
     pub record: u16,
@@ -39,7 +41,7 @@ pub struct Reading {
 
 // What a call answers: a refusal's number, 0 for none, its record, at 14 the task and position that differ,
 // at 10 the pairs needed; or else what the call answers, and 0 elsewhere.
-#[derive(Drop)]
+#[derive(Clone, Copy)]
 pub struct Told {
     pub refusal: u16,
     pub record: u16,
@@ -53,7 +55,7 @@ pub struct Told {
 }
 
 // A stretch of a task's work: its events from one position to another, both counted from 1.
-#[derive(Drop)]
+#[derive(Clone, Copy)]
 pub struct Stretch {
     pub task: u16,
     pub first: u16,
@@ -62,7 +64,7 @@ pub struct Stretch {
 
 // What a look for a task's last record gives: whether there is one, its number or else 0, and how many
 // records there are from it on, or else all.
-#[derive(Drop)]
+#[derive(Clone, Copy)]
 pub struct Look {
     pub found: bool,
     pub record: usize,

@@ -11,7 +11,7 @@ use crate::{Reading, Told, bare};
 use std::num::{wrapping_add_u16, wrapping_add_usize};
 
 // What the semaphore field of a trailer counts, and how many start bytes that makes.
-#[derive(Drop)]
+#[derive(Clone, Copy)]
 pub(crate) struct Levels {
     pub(crate) semaphores: u16,
     pub(crate) flags: u16,
@@ -153,7 +153,7 @@ fn read_trailer(file: &[u8]) -> Reading
 // ---- one record
 
 // A record, with the start count of its semaphore or the post count of its flag.
-#[derive(Drop)]
+#[derive(Clone, Copy)]
 struct Record {
     task: u16,
     kind: u16,

@@ -7,7 +7,7 @@ use crate::state::{
 };
 use std::num::{wrapping_add_u16, wrapping_add_u32, wrapping_sub_u16};
 
-#[derive(Drop)]
+#[derive(Clone, Copy)]
 pub(crate) struct Passes {
     pub(crate) passes: u32,
     pub(crate) settled: bool,
@@ -15,7 +15,7 @@ pub(crate) struct Passes {
 
 // What a wait finds among the events: how many waits on its semaphore are ordered before it, and how many
 // candidates there are.
-#[derive(Drop)]
+#[derive(Clone, Copy)]
 struct Found {
     waits: u16,
     candidates: u16,
