@@ -1,12 +1,11 @@
 -- Laws of the record check that the proofs cite: what a test says, how the first fault goes on by one record, and the look at post counts. Assumes nothing.
 use mathlib.Core.Path.{◌≡◌, refl, sym, ◌∙◌}
-use mathlib.Core.Bool.{Bool, true, false, not}
+use mathlib.Core.Bool.{Bool, true, false}
 use mathlib.Core.List.{List, [], ◌∷◌, ◌++◌}
 use Prim.Native.Nat.{ℕ, suc, ◌+◌, ◌-◌, ◌*◌, ◌≤◌, ◌<◌}
 use native.Mathlib.Nat.{zero-add}
 use native.Mathlib.Numerals.{add-one}
 use native.Mathlib.Omega.{arith}
-use borrow.Author.Tests.{not-true, not-false}
 use lib.Dec.{ltb, eqb}
 use lib.ListN.{length, get_or, take, drop, drop_of_length-le}
 use lib.Seq.{length-take-le, take-suc, drop-cons}
@@ -22,12 +21,12 @@ use Rattle.model.proofs.Tests.{cases, tests, lt-ltb, ne_eqb}
 use Rattle.model.proofs.Checks.{none_yet, the_first}
 use Rattle.model.proofs.Files.{events_length}
 
--- a test of the code, negated there, and what it says of the definition
-pub passed : {t d : Bool} → t ≡ d → not t ≡ false → d ≡ true
-passed {t} e h = sym e ∙ not-false t h
+-- a test of the code, and what it says of the definition
+pub passed : {t d : Bool} → t ≡ d → t ≡ true → d ≡ true
+passed e h = sym e ∙ h
 
-pub failed : {t d : Bool} → t ≡ d → not t ≡ true → d ≡ false
-failed {t} e h = sym e ∙ not-true t h
+pub failed : {t d : Bool} → t ≡ d → t ≡ false → d ≡ false
+failed e h = sym e ∙ h
 
 -- of n whole records, n events come before record n
 pub before_length : (s : List ℕ) (n : ℕ) → 4 * n ≤ length s → length (take n (events_of s)) ≡ n
