@@ -47,5 +47,8 @@ returns c =
     let k = x.auto.v ∙ c.requires.records.1 in
     let z = ap (chunks (size E) a.tasks) c.raise_found.ensures.v_after
     ∙ taken_found a (size E) l c.args.e m.result k c.requires.records.2
-    ∙ ap (λ (f : Found). taken a (chunks (size E) a.tasks l) (found f) c.args.e) m.ensures.value.0 in record { becomes = record_event E _ _ _ _ c.args.e (chunks_shaped (size E) a.tasks c.args.v.now c.requires.records.1) c.requires.records.2
-          (x.ensures.becomes ∙ step_one_levels r a c.args.levels.now _ c.args.e) z c.raise_opened.ensures; cases = m.ensures.cases }
+    ∙ ap (λ (f : Found). taken a (chunks (size E) a.tasks l) (found f) c.args.e) m.ensures.value.0 in record {
+      becomes = record_event E _ _ _ _ c.args.e (chunks_shaped (size E) a.tasks c.args.v.now c.requires.records.1) c.requires.records.2
+          (x.ensures.becomes ∙ step_one_levels r a c.args.levels.now _ c.args.e) z c.raise_opened.ensures;
+      cases = m.ensures.cases;
+    }
