@@ -6,15 +6,14 @@ use borrow.Author.Rules.{rules}
 use lib.ListN.{take}
 use Rattle.passes.specs.Lent.{vectors_in}
 use Rattle.work.proofs.Parts.{first_part}
-use Rattle.work.proofs.safe_part.Statement.{statement}
-use Rattle.work.proofs.safe_part.Tie as tie
+use Rattle.work.proofs.safe_part.Goals as goal
 
-returns : tie.Need-returns
+pub slice_bounds-result-end : goal.slice_bounds-result-end
+slice_bounds-result-end c =
+    sym (first_part _ _ (omega arith))
+
+pub returns : goal.returns
 returns c =
-    let n = c.before in
-    let a = n.before.before.before.args in
-    let e = n.numbers.ensures.0 in
+    let a = c.args in
+    let e = c.numbers-half.ensures.0 in
     (ap (λ (m : ℕ). vectors_in a.records.now a.counts (take m a.work.now)) e, first_part _ _ (omega arith) ∙ e)
-
-pub safe-part-spec : {M : Type 1} → statement M
-safe-part-spec = tie.close (tie.spec (λ c κs. search rules) (λ c. sym (first_part _ _ (omega arith))) returns)

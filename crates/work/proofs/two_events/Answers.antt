@@ -4,13 +4,9 @@ use Prim.Native.Nat.{◌/◌}
 use native.Mathlib.Omega.{arith}
 use lib.ListN.{length}
 use Rattle.model.specs.File.{events_of}
-use Rattle.work.proofs.two_events.Statement.{statement}
-use Rattle.work.proofs.two_events.Tie as tie
+use Rattle.work.proofs.two_events.Goals as goal
 
-returns : tie.Need-returns
+pub returns : goal.returns
 returns c =
     let e : length c.args.records.now / 4 ≡ length (events_of c.args.records.now) = omega (arith, c.requires.records.whole) in
     rw e
-
-pub two-events-spec : {M : Type 1} → statement M
-two-events-spec = tie.close (tie.spec returns)

@@ -1,0 +1,8 @@
+-- work_fits meets its contract. Assumes nothing.
+use native.Mathlib.Omega.{arith}
+use borrow.Author.Rules.{rules}
+use Rattle.work.proofs.work_fits.Goals as goal
+
+pub returns : goal.returns
+returns c =
+    rw c.numbers.ensures.0
