@@ -19,8 +19,8 @@ two_events-requires c =
 
 pub returns-then-not-two_events : goal.returns-then-not-two_events
 returns-then-not-two_events c =
-    let recording : Recording = recording_by c.args.records.now c.args.counts c.args.levels.now in
-    no_events recording _ _ c.args.budget _ (sym c.two_events.ensures ∙ not-true _ (ap not c.if-not-two_events.true))
+    let told = (let recording : Recording = recording_by c.args.records.now c.args.counts c.args.levels.now in
+    no_events recording _ _ c.args.budget _ (sym c.two_events.ensures ∙ not-true _ (ap not c.if-not-two_events.true))) in record { value = told.0; work_after = told.1 }
 
 pub work_fits-requires : goal.work_fits-requires
 work_fits-requires c =
@@ -28,9 +28,9 @@ work_fits-requires c =
 
 pub returns-then-not-work_fits : goal.returns-then-not-work_fits
 returns-then-not-work_fits c =
-    let recording : Recording = recording_by c.args.records.now c.args.counts c.args.levels.now in
+    let told = (let recording : Recording = recording_by c.args.records.now c.args.counts c.args.levels.now in
     let two : two_events recording c.args.a c.args.b ≡ true = sym c.two_events.ensures ∙ not-false _ (ap not c.if-not-two_events.false) in
-    no_room recording _ _ c.args.budget _ two (sym c.work_fits.ensures ∙ not-true _ (ap not c.if-not-work_fits.true))
+    no_room recording _ _ c.args.budget _ two (sym c.work_fits.ensures ∙ not-true _ (ap not c.if-not-work_fits.true))) in record { value = told.0; work_after = told.1 }
 
 pub fill-requires : goal.fill-requires
 fill-requires c =
@@ -41,7 +41,7 @@ fill-requires c =
 
 pub returns : goal.returns
 returns c =
-    let recording : Recording = recording_by c.args.records.now c.args.counts c.args.levels.now in
+    let told = (let recording : Recording = recording_by c.args.records.now c.args.counts c.args.levels.now in
     let two : two_events recording c.args.a c.args.b ≡ true = sym c.two_events.ensures ∙ not-false _ (ap not c.if-not-two_events.false) in
     let fits : work_fits recording c.args.work.now ≡ true = sym c.work_fits.ensures ∙ not-false _ (ap not c.if-not-work_fits.false) in
-    all_passed recording _ _ c.args.budget _ two fits _ c.fill.ensures.work_after
+    all_passed recording _ _ c.args.budget _ two fits _ c.fill.ensures.work_after) in record { value = told.0; work_after = told.1 }
