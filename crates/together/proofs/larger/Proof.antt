@@ -1,7 +1,0 @@
--- larger meets its contract. Assumes nothing.
-use native.Mathlib.Omega.{arith}
-use Rattle.together.proofs.larger.Statement.{statement}
-use Rattle.together.proofs.larger.Tie as tie
-
-pub larger-spec : {M : Type 1} → statement M
-larger-spec = tie.close (tie.spec (λ c. omega arith) (λ c. omega arith))
