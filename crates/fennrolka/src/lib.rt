@@ -1,5 +1,6 @@
 // The functions for callers in C, on numbers and lent slices. Each takes any input, answers 0 or the number of a refusal, and puts
-// its numbers from the front of `told`, as many as there is room for; what is behind them stays. fennrolka.h declares them.
+// its numbers from the front of `told`, as many as there is room for; what is behind them stays. `fennrolka_c` exports them, and
+// fennrolka.h declares them.
 #![tactic(auto)]
 
 ghost use Rattle.std.specs.Prelude.{◌≡◌, set};
@@ -81,8 +82,7 @@ fn reading_numbers(found: Reading) -> [u64; 8]
 }
 
 // Reads a file. Told: edition, start, events, tasks, semaphores, flags, cells, and the faulty record of a refusal.
-#[unsafe(no_mangle)]
-pub extern "C" fn fennrolka_read(file: &[u8], told: &mut [u64]) -> u32
+pub fn fennrolka_read(file: &[u8], told: &mut [u64]) -> u32
     ensures value { result ≡ code_of_reading (reading_of file.now) }
     ensures told_after { told.new ≡ laid (told_of_reading (reading_of file.now)) told.old }
 {
@@ -136,8 +136,7 @@ fn look(file: &[u8], e: usize) -> Looked
 }
 
 // Looks for event e of a file. Told: task, kind, object, and the faulty record of a refusal.
-#[unsafe(no_mangle)]
-pub extern "C" fn fennrolka_event(file: &[u8], e: usize, told: &mut [u64]) -> u32
+pub fn fennrolka_event(file: &[u8], e: usize, told: &mut [u64]) -> u32
     ensures value { result ≡ code_of_looked (looked_of file.now e) }
     ensures told_after { told.new ≡ laid (told_of_looked (looked_of file.now e)) told.old }
 {
@@ -177,8 +176,7 @@ fn analysis_numbers(found: Analysis) -> [u64; 4]
 
 // Analyses a file with a budget of passes, and leaves work numbers and list as `analysis::analyse` does. Told: passes, settled,
 // pairs, also those that 10 asks for, and the faulty record of a refusal.
-#[unsafe(no_mangle)]
-pub extern "C" fn fennrolka_analyse(
+pub fn fennrolka_analyse(
     file: &[u8],
     budget: u32,
     work: &mut [u16],
