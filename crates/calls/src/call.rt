@@ -32,7 +32,7 @@ pub const STRETCHES: u8 = 6;
 // Which call it is, its two events, its budget, for writing its counts, and its two stretches. Behind it
 // come up to three parts of bytes: the file, or both files, or for writing the records, the start bytes
 // and the post bytes.
-#[derive(Drop)]
+#[derive(Clone, Copy)]
 pub struct Call {
     pub which: u8,
     pub a: usize,
@@ -331,7 +331,7 @@ pub fn list_of(c: Call, one: &[u8], two: &[u8], list: &mut [u16]) -> u32
 
 // How many work numbers are lent, how many for the second file, how many list numbers, and how many
 // bytes of output.
-#[derive(Drop)]
+#[derive(Clone, Copy)]
 pub struct Lent {
     pub work: usize,
     pub other: usize,
@@ -364,7 +364,7 @@ fn entries(c: Call, pairs: u32) -> usize {
 }
 
 // What both answered, and whether they agree in it and in all that they leave.
-#[derive(Drop)]
+#[derive(Clone, Copy)]
 pub(crate) struct Outcome {
     pub(crate) told: Told,
     pub(crate) agrees: bool,

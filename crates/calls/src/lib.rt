@@ -1,6 +1,8 @@
 // The library's calls against the second analyser's, for tests: one form of call, of answer and of lent
 // memory serves all of them, and each comparison is counted. It is proved safe and to end, with one plain
 // fact of each public function: what tries something never loses a difference that was counted.
+#![tactic(auto)]
+
 pub mod call;
 pub mod lists;
 pub mod looks;

@@ -6,6 +6,7 @@ use crate::call;
 use crate::tries::try_way;
 use crate::writing::try_writing_way;
 use rows::bytes::{number, put_number, same_numbers};
+use rows::log::Log;
 use rows::records::{name_events, object_of};
 use rows::tally::{Tally, count};
 
@@ -66,14 +67,14 @@ fn in_task_order(file: &[u8], budget: u32) -> bool {
 }
 
 // One size for analysing and one for writing, and the order of the list.
-pub fn try_one(t: Tally, file: &[u8], budget: u32, way: u32) -> Tally
+pub fn try_one(t: Tally, log: &mut Log, file: &[u8], budget: u32, way: u32) -> Tally
     ensures { t.wrong ≤ result.wrong }
 {
     let c = call::analysing(budget);
     let need = call::needed(c, file, b"");
-    let analysed = try_way(t, c, file, b"", need, way % 6);
-    let written = try_writing_way(analysed, file, way % 13);
-    count(written, in_task_order(file, budget), file)
+    let analysed = try_way(t, log, c, file, b"", need, way % 6);
+    let written = try_writing_way(analysed, log, file, way % 13);
+    count(written, log, in_task_order(file, budget), file)
 }
 
 // The lists of two recordings are the same once their events are named.
@@ -85,9 +86,9 @@ fn same_named(one: &[u8], other: &[u8]) -> bool {
 }
 
 // A recording is accepted, and has another one's list.
-pub fn try_same_list(t: Tally, one: &[u8], other: &[u8]) -> Tally
+pub fn try_same_list(t: Tally, log: &mut Log, one: &[u8], other: &[u8]) -> Tally
     ensures { t.wrong ≤ result.wrong }
 {
     let same = second::read(other).refusal == 0 && same_named(one, other);
-    count(t, same, other)
+    count(t, log, same, other)
 }

@@ -4,6 +4,7 @@
 ghost use Rattle.std.specs.Prelude.{◌≤◌};
 
 use model::Found;
+use rows::log::Log;
 use rows::tally::{Tally, count};
 use second::Look;
 
@@ -34,25 +35,30 @@ fn agrees(part: &[u8], task: u16) -> bool {
 }
 
 // Both looks answer the same.
-pub fn try_look(t: Tally, part: &[u8], task: u16) -> Tally
+pub fn try_look(t: Tally, log: &mut Log, part: &[u8], task: u16) -> Tally
     ensures { t.wrong ≤ result.wrong }
 {
-    count(t, agrees(part, task), part)
+    count(t, log, agrees(part, task), part)
 }
 
 // The task's last event in a part of the records is that in all of them.
-pub fn try_same_last(t: Tally, part: &[u8], records: &[u8], task: u16) -> Tally
+pub fn try_same_last(t: Tally, log: &mut Log, part: &[u8], records: &[u8], task: u16) -> Tally
     ensures { t.wrong ≤ result.wrong }
 {
     let before = look(part, task);
     let whole = look(records, task);
     let kept = before.found == whole.found && before.record == whole.record;
-    count(t, agrees(part, task) && kept, records)
+    count(t, log, agrees(part, task) && kept, records)
 }
 
 // Both answer these numbers: how many records were read, and the hit, where there is one.
-pub fn try_found(t: Tally, part: &[u8], task: u16, o: Look) -> Tally
+pub fn try_found(t: Tally, log: &mut Log, part: &[u8], task: u16, o: Look) -> Tally
     ensures { t.wrong ≤ result.wrong }
 {
-    count(t, same(look(part, task), o) && agrees(part, task), part)
+    count(
+        t,
+        log,
+        same(look(part, task), o) && agrees(part, task),
+        part,
+    )
 }

@@ -2,17 +2,30 @@
 // library prints.
 ghost use Rattle.std.specs.Prelude.{◌≤◌};
 
-use rows::bytes::{BYTE_MARK, number, part_of, product, put_bytes, same_bytes, same_output};
+use rows::bytes::{
+    BYTE_MARK, number, part_of, product, put_byte, put_bytes, same_bytes, same_output,
+};
+use rows::log::Log;
 use rows::records::object_of;
 use rows::tally::{Tally, count};
 use second::Told;
+use std::num::wrapping_add_usize;
+
+// A number in decimal.
+fn put_decimal(out: &mut [u8], at: usize, n: u32) -> usize {
+    let end = if n < 10 {
+        at
+    } else {
+        put_decimal(out, at, n / 10)
+    };
+    put_byte(out, end, b'0' + (n % 10) as u8);
+    wrapping_add_usize(end, 1)
+}
 
 // A word and a number.
 fn put_named(out: &mut [u8], at: usize, name: &[u8], n: u32) -> usize {
-    let mut digits = [0u8; 20];
-    let count = io::decimal(n as u64, &mut digits);
     let end = put_bytes(out, at, name);
-    put_bytes(out, end, &digits[..count])
+    put_decimal(out, end, n)
 }
 
 // One of two texts.
@@ -83,17 +96,17 @@ fn printing_agrees(file: &[u8]) -> bool {
 }
 
 // What is printed of a file.
-pub fn try_printing(t: Tally, file: &[u8]) -> Tally
+pub fn try_printing(t: Tally, log: &mut Log, file: &[u8]) -> Tally
     ensures { t.wrong ≤ result.wrong }
 {
-    count(t, printing_agrees(file), file)
+    count(t, log, printing_agrees(file), file)
 }
 
 // The library prints this text.
-pub fn try_text(t: Tally, file: &[u8], text: &[u8]) -> Tally
+pub fn try_text(t: Tally, log: &mut Log, file: &[u8], text: &[u8]) -> Tally
     ensures { t.wrong ≤ result.wrong }
 {
     let mut out = [0u8; 4096];
     let n = put_report(file, &mut out);
-    count(t, same_bytes(part_of(&out, 0, n), text), file)
+    count(t, log, same_bytes(part_of(&out, 0, n), text), file)
 }

@@ -6,6 +6,7 @@ use crate::call::{ASK, Call, REVERSED, WAYS, call_of};
 use crate::tries::{try_way, try_ways};
 use crate::{call, reading};
 use rows::bytes::{number, same_bytes};
+use rows::log::Log;
 use rows::records::{name_events, record_at};
 use rows::tally::{Tally, count};
 use second::Told;
@@ -66,11 +67,18 @@ fn shows(file: &[u8], shown: &[u8], x: usize, y: usize) -> bool {
 }
 
 // What is looked at after a call that answered this and wrote this recording.
-pub(crate) fn try_shown(t: Tally, c: Call, file: &[u8], o: Told, shown: &[u8]) -> Tally
+pub(crate) fn try_shown(
+    t: Tally,
+    log: &mut Log,
+    c: Call,
+    file: &[u8],
+    o: Told,
+    shown: &[u8],
+) -> Tally
     ensures { t.wrong ≤ result.wrong }
 {
     if o.refusal == 0 {
-        let mut next = count(t, shows(file, shown, c.a, c.b), file);
+        let mut next = count(t, log, shows(file, shown, c.a, c.b), file);
         next.written = wrapping_add_u32(t.written, 1);
         return next;
     }
@@ -99,24 +107,24 @@ fn is_sure(file: &[u8], x: usize, y: usize) -> bool {
 
 // Both events as the chosen one, with the sizes that are needed and with more. Whichever event is
 // chosen, the library writes a recording or refuses alike, and writes exactly of a sure pair.
-pub fn try_pair(t: Tally, file: &[u8], x: usize, y: usize) -> Tally
+pub fn try_pair(t: Tally, log: &mut Log, file: &[u8], x: usize, y: usize) -> Tally
     ensures { t.wrong ≤ result.wrong }
 {
     let mut shown = [0u8; 4200];
     let c = call_of(REVERSED, x, y, 0);
     let d = call_of(REVERSED, y, x, 0);
     let need = call::needed(c, file, b"");
-    let there = try_way(t, c, file, b"", need, 0);
-    let back = try_way(there, d, file, b"", need, 1);
+    let there = try_way(t, log, c, file, b"", need, 0);
+    let back = try_way(there, log, d, file, b"", need, 1);
     let refusal = refusal_of(c, file, &mut shown);
     let alike = refusal == refusal_of(d, file, &mut shown) && (refusal == 0) == is_sure(file, x, y);
-    count(back, alike, file)
+    count(back, log, alike, file)
 }
 
 // Both events as the chosen one, with each of the sizes.
-pub fn try_sizes(t: Tally, file: &[u8], x: usize, y: usize) -> Tally
+pub fn try_sizes(t: Tally, log: &mut Log, file: &[u8], x: usize, y: usize) -> Tally
     ensures { t.wrong ≤ result.wrong }
 {
-    let there = try_ways(t, call_of(REVERSED, x, y, 0), file, b"", WAYS);
-    try_ways(there, call_of(REVERSED, y, x, 0), file, b"", WAYS)
+    let there = try_ways(t, log, call_of(REVERSED, x, y, 0), file, b"", WAYS);
+    try_ways(there, log, call_of(REVERSED, y, x, 0), file, b"", WAYS)
 }

@@ -9,6 +9,7 @@ use crate::reading::counts_of;
 use crate::tries::try_lent;
 use model::Counts;
 use rows::bytes::part_of;
+use rows::log::Log;
 use rows::tally::Tally;
 
 const WAYS: u32 = 13;
@@ -62,6 +63,7 @@ fn posts_in<'a>(levels: &'a [u8], zeros: &'a [u8], n: usize, end: usize, way: u3
 // bytes the next, up to an end.
 fn try_parts(
     t: Tally,
+    log: &mut Log,
     records: &[u8],
     c: Counts,
     levels: &[u8],
@@ -84,6 +86,7 @@ fn try_parts(
     };
     try_lent(
         t,
+        log,
         call::writing(counts),
         part_of(records, 0, cut),
         part_of(levels, 0, lent(n, way, 7)),
@@ -94,7 +97,7 @@ fn try_parts(
 
 // Writing what a file holds; where its trailer is refused, all of it but the trailer, with counts of a
 // small recording.
-pub(crate) fn try_writing_way(t: Tally, file: &[u8], way: u32) -> Tally
+pub(crate) fn try_writing_way(t: Tally, log: &mut Log, file: &[u8], way: u32) -> Tally
     ensures { t.wrong ≤ result.wrong }
 {
     let r = second::read(file);
@@ -104,6 +107,7 @@ pub(crate) fn try_writing_way(t: Tally, file: &[u8], way: u32) -> Tally
     if r.tasks != 0 {
         return try_parts(
             t,
+            log,
             part_of(file, start, end),
             counts_of(r),
             part_of(file, end, file.len()),
@@ -122,6 +126,7 @@ pub(crate) fn try_writing_way(t: Tally, file: &[u8], way: u32) -> Tally
     let cut = if all < 16 { 0 } else { all - 16 };
     try_parts(
         t,
+        log,
         part_of(file, 0, cut),
         c,
         part_of(file, cut, all),
@@ -132,12 +137,12 @@ pub(crate) fn try_writing_way(t: Tally, file: &[u8], way: u32) -> Tally
 }
 
 // Writing in each of the ways.
-pub fn try_writing(t: Tally, file: &[u8]) -> Tally
+pub fn try_writing(t: Tally, log: &mut Log, file: &[u8]) -> Tally
     ensures { t.wrong ≤ result.wrong }
 {
     let mut next = t;
     for way in 0..WAYS {
-        next = try_writing_way(next, file, way);
+        next = try_writing_way(next, log, file, way);
     }
     next
 }

@@ -4,6 +4,7 @@ use calls::call::{TOGETHER, WAYS, analysing, call_of, list_of, needed};
 use calls::tries::{ENDLESS, try_way, try_ways};
 use model::Reading;
 use rows::bytes::{at_least_one, byte, first_bytes, number, part_of, put_byte, put_bytes};
+use rows::log::Log;
 use rows::make::{damage, damage_byte, draw, draw_from, draw_word, kinds_in, make};
 use rows::records::{Draft, Shape, mark_preamble, place, put_record, put_trailer};
 use rows::tally::{Tally, count_both};
@@ -105,7 +106,7 @@ fn put_second(seed: &mut u32, one: &[u8], s: Shape, without: usize, file: &mut [
 }
 
 // How long two files are.
-#[derive(Drop)]
+#[derive(Clone, Copy)]
 struct Lengths {
     one: usize,
     two: usize,
@@ -123,7 +124,7 @@ fn put_both(seed: &mut u32, s: Shape, without: usize, a: &mut [u8], b: &mut [u8]
 
 // Each pair of the one list is sure exactly where the list of one of the files has it so; and how many
 // pairs one of the lists alone has as sure, or none where that fails.
-#[derive(Drop)]
+#[derive(Clone, Copy)]
 struct Marks {
     agree: bool,
     one_sided: u32,
@@ -149,7 +150,7 @@ fn compare_marks(a: &[u16], b: &[u16], both: &[u16], pairs: u32) -> Marks {
 
 // The library's one list has as many pairs as its list of each file, and their marks; those that one
 // file alone makes sure are met.
-fn try_marks(t: Tally, one: &[u8], two: &[u8]) -> Tally {
+fn try_marks(t: Tally, log: &mut Log, one: &[u8], two: &[u8]) -> Tally {
     let mut a = [0u16; 24576];
     let mut b = [0u16; 24576];
     let mut both = [0u16; 40960];
@@ -158,7 +159,13 @@ fn try_marks(t: Tally, one: &[u8], two: &[u8]) -> Tally {
     let other = list_of(c, two, b"", &mut b);
     let joint = list_of(call_of(TOGETHER, 0, 0, 0), one, two, &mut both);
     let m = compare_marks(&a, &b, &both, if found < 8193 { found } else { 0 });
-    let mut next = count_both(t, found == joint && other == joint && m.agree, one, two);
+    let mut next = count_both(
+        t,
+        log,
+        found == joint && other == joint && m.agree,
+        one,
+        two,
+    );
     next.one_sided = wrapping_add_u32(t.one_sided, m.one_sided);
     next
 }
@@ -172,19 +179,19 @@ fn unlisted(one: &[u8], two: &[u8]) -> Told {
 }
 
 // Two recordings of the same work: accepted so, with all sizes or one of them, and the marks.
-fn try_alike(t: Tally, one: &[u8], two: &[u8], all: bool, way: u32) -> Tally {
+fn try_alike(t: Tally, log: &mut Log, one: &[u8], two: &[u8], all: bool, way: u32) -> Tally {
     let c = call_of(TOGETHER, 0, 0, 0);
     let o = unlisted(one, two);
-    let held = count_both(t, o.refusal == 0 || o.refusal == 10, one, two);
+    let held = count_both(t, log, o.refusal == 0 || o.refusal == 10, one, two);
     if all {
-        return try_marks(try_ways(held, c, one, two, WAYS), one, two);
+        return try_marks(try_ways(held, log, c, one, two, WAYS), log, one, two);
     }
     let need = needed(c, one, two);
-    try_marks(try_way(held, c, one, two, need, way), one, two)
+    try_marks(try_way(held, log, c, one, two, need, way), log, one, two)
 }
 
 // A job recorded twice, the one or the other first.
-pub(crate) fn try_shuffled(t: Tally, seed: &mut u32, s: Shape, all: bool) -> Tally {
+pub(crate) fn try_shuffled(t: Tally, log: &mut Log, seed: &mut u32, s: Shape, all: bool) -> Tally {
     let mut a = [0u8; 4400];
     let mut b = [0u8; 4400];
     let l = put_both(seed, s, 65535, &mut a, &mut b);
@@ -192,9 +199,9 @@ pub(crate) fn try_shuffled(t: Tally, seed: &mut u32, s: Shape, all: bool) -> Tal
     let two = part_of(&b, 0, l.two);
     let way = draw(seed, WAYS);
     if draw(seed, 2) == 0 {
-        return try_alike(t, one, two, all, way);
+        return try_alike(t, log, one, two, all, way);
     }
-    try_alike(t, two, one, all, way)
+    try_alike(t, log, two, one, all, way)
 }
 
 // ---- recordings that are changed
@@ -259,10 +266,10 @@ fn change_part(seed: &mut u32, file: &mut [u8], length: usize, what: u32) {
 }
 
 // Two files, both ways round; a difference at a position is met.
-fn try_unlike(t: Tally, one: &[u8], two: &[u8], way: u32) -> Tally {
+fn try_unlike(t: Tally, log: &mut Log, one: &[u8], two: &[u8], way: u32) -> Tally {
     let c = call_of(TOGETHER, 0, 0, 0);
-    let there = try_way(t, c, one, two, needed(c, one, two), way);
-    let mut back = try_way(there, c, two, one, needed(c, two, one), way);
+    let there = try_way(t, log, c, one, two, needed(c, one, two), way);
+    let mut back = try_way(there, log, c, two, one, needed(c, two, one), way);
     if unlisted(one, two).position != 0 {
         back.differing = wrapping_add_u32(t.differing, 1);
     }
@@ -270,7 +277,7 @@ fn try_unlike(t: Tally, one: &[u8], two: &[u8], way: u32) -> Tally {
 }
 
 // Two recordings of which one is changed, lacks a record or is damaged, or both are damaged.
-pub(crate) fn try_altered(t: Tally, seed: &mut u32, s: Shape) -> Tally {
+pub(crate) fn try_altered(t: Tally, log: &mut Log, seed: &mut u32, s: Shape) -> Tally {
     let mut a = [0u8; 4400];
     let mut b = [0u8; 4400];
     let what = draw(seed, 8);
@@ -287,5 +294,5 @@ pub(crate) fn try_altered(t: Tally, seed: &mut u32, s: Shape) -> Tally {
     let m = damage(seed, s, &mut b, l.two, 5 < what);
     let one = part_of(&a, 0, n);
     let two = part_of(&b, 0, m);
-    try_unlike(t, one, two, draw(seed, WAYS))
+    try_unlike(t, log, one, two, draw(seed, WAYS))
 }

@@ -4,6 +4,7 @@ use crate::groups::draw_budget;
 use calls::call::{Call, Lent, STRETCHES, WAYS, call_of, comparing, needed};
 use calls::tries::try_way;
 use rows::bytes::{at_least_one, number, product};
+use rows::log::Log;
 use rows::make::{draw, draw_from};
 use rows::records::name_events;
 use rows::tally::Tally;
@@ -47,10 +48,18 @@ fn count_of(tasks: u16, ends: u16) -> u16 {
 }
 
 // All pairs of so many stretches.
-fn try_all(t: Tally, file: &[u8], all: u16, ends: u16, budget: u32, need: Lent) -> Tally {
+fn try_all(
+    t: Tally,
+    log: &mut Log,
+    file: &[u8],
+    all: u16,
+    ends: u16,
+    budget: u32,
+    need: Lent,
+) -> Tally {
     let mut next = t;
     for i in 0..product(all, all) {
-        next = try_way(next, pair_of(i, all, ends, budget), file, b"", need, 0);
+        next = try_way(next, log, pair_of(i, all, ends, budget), file, b"", need, 0);
     }
     next
 }
@@ -97,6 +106,7 @@ fn draw_stretch(seed: &mut u32, records: &[u8], names: &[u16], r: Reading) -> St
 // Two stretches, both ways round: with one of the sizes, and with the size that is needed.
 fn try_drawn(
     t: Tally,
+    log: &mut Log,
     seed: &mut u32,
     file: &[u8],
     names: &[u16],
@@ -108,12 +118,21 @@ fn try_drawn(
     let other = draw_stretch(seed, records, names, r);
     let budget = draw_budget(seed, r.events);
     let way = draw(seed, WAYS);
-    let there = try_way(t, comparing(one, other, budget), file, b"", need, way);
-    try_way(there, comparing(other, one, budget), file, b"", need, 0)
+    let there = try_way(t, log, comparing(one, other, budget), file, b"", need, way);
+    try_way(
+        there,
+        log,
+        comparing(other, one, budget),
+        file,
+        b"",
+        need,
+        0,
+    )
 }
 
 fn try_some(
     t: Tally,
+    log: &mut Log,
     seed: &mut u32,
     file: &[u8],
     names: &[u16],
@@ -123,22 +142,28 @@ fn try_some(
 ) -> Tally {
     let mut next = t;
     for i in 0..pairs {
-        next = try_drawn(next, seed, file, names, r, need);
+        next = try_drawn(next, log, seed, file, names, r, need);
     }
     next
 }
 
 // So many pairs of stretches of a recording; or all, of the tasks and of one more, with positions from 0 to
 // one past the most.
-pub(crate) fn try_stretches(t: Tally, seed: &mut u32, file: &[u8], pairs: u32) -> Tally {
+pub(crate) fn try_stretches(
+    t: Tally,
+    log: &mut Log,
+    seed: &mut u32,
+    file: &[u8],
+    pairs: u32,
+) -> Tally {
     let mut names = [0u16; 1024];
     name_events(recording::records(file), &mut names);
     let r = second::read(file);
     let need = needed(call_of(STRETCHES, 0, 0, 0), file, b"");
     if pairs != 0 {
-        return try_some(t, seed, file, &names, r, need, pairs);
+        return try_some(t, log, seed, file, &names, r, need, pairs);
     }
     let ends = most_own(&names, r.events) % 16 + 2;
     let budget = draw_budget(seed, r.events);
-    try_all(t, file, count_of(r.tasks, ends), ends, budget, need)
+    try_all(t, log, file, count_of(r.tasks, ends), ends, budget, need)
 }

@@ -3,6 +3,7 @@
 ghost use Rattle.std.specs.Prelude.{◌≡◌, ◌+◌, ◌%◌, ◌^◌, ◌≤◌, length};
 
 use crate::bytes::{byte, part_of};
+use crate::log::Log;
 use crate::tally;
 use crate::tally::{Tally, say, say_group, say_number};
 use crate::text::{find, word};
@@ -10,7 +11,7 @@ use std::num::{wrapping_add_u32, wrapping_add_usize};
 
 // How far the rows have been tried: what was counted in the group, its rows and those before it, lines
 // and where the next one starts, and where the group's name stands.
-#[derive(Drop)]
+#[derive(Clone, Copy)]
 pub struct Progress {
     pub t: Tally,
     pub rows: u32,
@@ -48,11 +49,11 @@ pub fn row_at(p: Progress, text: &[u8], end: usize) -> &[u8]
 }
 
 // What the group's rows counted, said at its end.
-fn end_group(p: Progress, text: &[u8]) -> Progress
+fn end_group(p: Progress, log: &mut Log, text: &[u8]) -> Progress
     ensures { result.before ≡ (p.before + p.rows) % 2 ^ 32 }
 {
     if p.rows != 0 {
-        say_group(part_of(text, p.name, p.name_end), p.rows, p.t);
+        say_group(log, part_of(text, p.name, p.name_end), p.rows, p.t);
     }
     let mut next = p;
     next.t = tally::none();
@@ -63,12 +64,19 @@ fn end_group(p: Progress, text: &[u8]) -> Progress
 
 // After a line up to its end, whose row counted this: the group's name, or a row more, which is said
 // where it differs.
-pub fn after_line(p: Progress, text: &[u8], end: usize, row: &[u8], t: Tally) -> Progress
+pub fn after_line(
+    p: Progress,
+    log: &mut Log,
+    text: &[u8],
+    end: usize,
+    row: &[u8],
+    t: Tally,
+) -> Progress
     ensures { result.from ≡ (end + 1) % 2 ^ 64 }
 {
     let mut next = p;
     if byte(part_of(text, p.from, end), 0) == b'=' {
-        next = end_group(p, text);
+        next = end_group(p, log, text);
         next.name = wrapping_add_usize(p.from, 2);
         next.name_end = end;
     }
@@ -79,17 +87,17 @@ pub fn after_line(p: Progress, text: &[u8], end: usize, row: &[u8], t: Tally) ->
     next.lines = wrapping_add_u32(p.lines, 1);
     next.from = wrapping_add_usize(end, 1);
     if p.t.wrong < next.t.wrong {
-        say(row);
-        say_number(b" <- differs, line ", next.lines);
+        say(log, row);
+        say_number(log, b" <- differs, line ", next.lines);
     }
     next
 }
 
 // Says what the last group counted and how many rows there were, and answers that number.
-pub fn finish(p: Progress, text: &[u8]) -> u32
+pub fn finish(p: Progress, log: &mut Log, text: &[u8]) -> u32
     ensures { result ≡ (p.before + p.rows) % 2 ^ 32 }
 {
-    let rows = end_group(p, text).before;
-    say_number(b"rows ", rows);
+    let rows = end_group(p, log, text).before;
+    say_number(log, b"rows ", rows);
     rows
 }

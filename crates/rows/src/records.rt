@@ -7,7 +7,7 @@ use crate::bytes::{
 use std::num::wrapping_add_usize;
 
 // How large a recording may be: its preamble and events, and its counts; and its edition.
-#[derive(Drop)]
+#[derive(Clone, Copy)]
 pub struct Shape {
     pub preamble: u16,
     pub events: u16,
@@ -18,7 +18,7 @@ pub struct Shape {
     pub edition: u16,
 }
 
-#[derive(Drop)]
+#[derive(Clone, Copy)]
 pub struct Draft {
     pub task: u16,
     pub kind: u16,

@@ -2,14 +2,14 @@
 ghost use Rattle.std.specs.Prelude.{◌≤◌};
 
 use crate::bytes::byte;
-use libc::STDOUT_FILENO;
+use crate::log::Log;
 use std::num::wrapping_add_u32;
 
 // How many comparisons were made and how many failed; and what they met: recordings written that show a
 // pair reversed, pairs refused by 15, pairs that one of two recordings alone makes sure, recordings that
 // differ at a position, and of two stretches that one is before the other, that neither is, and refusals
 // by 17.
-#[derive(Drop)]
+#[derive(Clone, Copy)]
 pub struct Tally {
     pub total: u32,
     pub wrong: u32,
@@ -36,47 +36,47 @@ pub(crate) fn none() -> Tally {
     }
 }
 
-pub(crate) fn say(text: &[u8]) {
-    io::write_all(STDOUT_FILENO, text);
+pub(crate) fn say(log: &mut Log, text: &[u8]) {
+    log.write(text);
 }
 
 // A text, a number and the line's end.
-pub(crate) fn say_number(text: &[u8], n: u32) {
-    say(text);
-    io::print_decimal(STDOUT_FILENO, n as u64);
-    say(b"\n");
+pub(crate) fn say_number(log: &mut Log, text: &[u8], n: u32) {
+    say(log, text);
+    log.print(n);
+    say(log, b"\n");
 }
 
 // The same of a number that is not 0.
-fn say_met(text: &[u8], n: u32) {
+fn say_met(log: &mut Log, text: &[u8], n: u32) {
     if n != 0 {
-        say_number(text, n);
+        say_number(log, text, n);
     }
 }
 
 // A group's name, how many rows it has, and what was counted.
-pub(crate) fn say_group(name: &[u8], rows: u32, t: Tally) {
-    say(name);
-    say(b": rows ");
-    io::print_decimal(STDOUT_FILENO, rows as u64);
-    say_number(b", comparisons ", t.total);
-    say_met(b"  recordings written ", t.written);
-    say_met(b"  refused by 15 ", t.unsure);
-    say_met(b"  pairs sure in one alone ", t.one_sided);
-    say_met(b"  that differ at a position ", t.differing);
-    say_met(b"  one before the other ", t.leading);
-    say_met(b"  neither before the other ", t.neither);
-    say_met(b"  refused by 17 ", t.unfit);
-    say_met(b"  DIFFERENCES ", t.wrong);
+pub(crate) fn say_group(log: &mut Log, name: &[u8], rows: u32, t: Tally) {
+    say(log, name);
+    say(log, b": rows ");
+    log.print(rows);
+    say_number(log, b", comparisons ", t.total);
+    say_met(log, b"  recordings written ", t.written);
+    say_met(log, b"  refused by 15 ", t.unsure);
+    say_met(log, b"  pairs sure in one alone ", t.one_sided);
+    say_met(log, b"  that differ at a position ", t.differing);
+    say_met(log, b"  one before the other ", t.leading);
+    say_met(log, b"  neither before the other ", t.neither);
+    say_met(log, b"  refused by 17 ", t.unfit);
+    say_met(log, b"  DIFFERENCES ", t.wrong);
 }
 
 // A file in hex, on a line.
-fn say_file(s: &[u8]) {
-    say(b"differs ");
+fn say_file(log: &mut Log, s: &[u8]) {
+    say(log, b"differs ");
     for i in 0..s.len() {
-        io::print_hex(STDOUT_FILENO, byte(s, i) as u64, 2);
+        log.print(format_args!("{:02x}", byte(s, i)));
     }
-    say(b"\n");
+    say(log, b"\n");
 }
 
 // One more, up to the largest, so that a difference once counted stays counted.
@@ -87,22 +87,22 @@ fn one_more(n: u32) -> u32
 }
 
 // Counts a comparison of two files, and shows both where it failed.
-pub fn count_both(t: Tally, agrees: bool, one: &[u8], two: &[u8]) -> Tally
+pub fn count_both(t: Tally, log: &mut Log, agrees: bool, one: &[u8], two: &[u8]) -> Tally
     ensures { t.wrong ≤ result.wrong }
 {
     let mut u = t;
     u.total = wrapping_add_u32(t.total, 1);
     if !agrees {
         u.wrong = one_more(t.wrong);
-        say_file(one);
-        say_file(two);
+        say_file(log, one);
+        say_file(log, two);
     }
     u
 }
 
 // Counts a comparison of one file.
-pub fn count(t: Tally, agrees: bool, file: &[u8]) -> Tally
+pub fn count(t: Tally, log: &mut Log, agrees: bool, file: &[u8]) -> Tally
     ensures { t.wrong ≤ result.wrong }
 {
-    count_both(t, agrees, file, b"")
+    count_both(t, log, agrees, file, b"")
 }

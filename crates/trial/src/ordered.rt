@@ -4,12 +4,13 @@ use calls::call::{TOGETHER, analysing, call_of, list_of, needed};
 use calls::lists::{try_one, try_same_list};
 use calls::tries::try_way;
 use rows::bytes::{at_least_one, number, part_of, product};
+use rows::log::Log;
 use rows::records::{Draft, Shape, place, put_record, put_trailer};
 use rows::tally::{Tally, count};
 use rows::text::{short, value};
 
 // Tasks with so many accesses each, and how the accesses go from cell to cell.
-#[derive(Drop)]
+#[derive(Clone, Copy)]
 pub(crate) struct Job {
     tasks: u16,
     each: u16,
@@ -78,7 +79,7 @@ fn put_job(file: &mut [u8], job: Job, order: u32) -> usize {
 
 // The job recorded in an order is accepted, and has the list that it has task by task; and both held
 // together.
-fn try_order(t: Tally, job: Job, order: u32) -> Tally {
+fn try_order(t: Tally, log: &mut Log, job: Job, order: u32) -> Tally {
     let mut first = [0u8; 4200];
     let mut bytes = [0u8; 4200];
     let length = put_job(&mut first, job, 0);
@@ -87,9 +88,9 @@ fn try_order(t: Tally, job: Job, order: u32) -> Tally {
     let one = part_of(&first, 0, length);
     let c = call_of(TOGETHER, 0, 0, 0);
     let need = needed(c, one, file);
-    let same = try_same_list(t, one, file);
-    let held = try_way(same, c, one, file, need, order % 2 * 7);
-    try_one(held, file, 1, 0)
+    let same = try_same_list(t, log, one, file);
+    let held = try_way(same, log, c, one, file, need, order % 2 * 7);
+    try_one(held, log, file, 1, 0)
 }
 
 // A list of 512 entries names 1,024 events, from the last to the first, and all are sure.
@@ -118,7 +119,7 @@ fn finds(job: Job, pairs: u32, falling: bool) -> bool {
 
 // `job TASKS EACH CELLS STEP [PAIRS FALLING]`: a job recorded in five orders; and how many pairs it
 // has, and whether their events count down.
-pub(crate) fn try_job(t: Tally, head: &[u8]) -> Tally {
+pub(crate) fn try_job(t: Tally, log: &mut Log, head: &[u8]) -> Tally {
     let job = Job {
         tasks: short(head, 1),
         each: short(head, 2),
@@ -128,10 +129,10 @@ pub(crate) fn try_job(t: Tally, head: &[u8]) -> Tally {
     let pairs = (value(head, 5) % 4294967296) as u32;
     let mut next = t;
     if pairs != 0 {
-        next = count(t, finds(job, pairs, value(head, 6) == 1), head);
+        next = count(t, log, finds(job, pairs, value(head, 6) == 1), head);
     }
     for order in 0..5u32 {
-        next = try_order(next, job, order);
+        next = try_order(next, log, job, order);
     }
     next
 }

@@ -15,6 +15,7 @@ use calls::tries::{
 use calls::writing::{output, try_writing};
 use model::Counts;
 use rows::bytes::{byte, fill_bytes, number, part_of, put_byte, same_bytes};
+use rows::log::Log;
 use rows::records::{Shape, field_of, mark_preamble, put_trailer, record_at};
 use rows::tally::{Tally, count, count_both};
 use rows::text::{digit, find, section, short, value, wide, word};
@@ -53,11 +54,11 @@ fn is_listed(o: Told, passes: u32, pairs: usize, entries: &[u8], list: &[u16]) -
 
 // `lists PASSES ENTRIES`: the library makes so many passes, settles unless it makes none, which is then
 // its whole budget, and lists these entries. Or `refused NUMBER RECORD`.
-fn try_listed(t: Tally, file: &[u8], s: &[u8]) -> Tally {
+fn try_listed(t: Tally, log: &mut Log, file: &[u8], s: &[u8]) -> Tally {
     let mut list = [0u16; 64];
     let mut out = [0u8; 1];
     if byte(word(s, 0), 0) == b'r' {
-        return try_refused(t, file, short(s, 1), short(s, 2));
+        return try_refused(t, log, file, short(s, 1), short(s, 2));
     }
     let passes = wide(s, 1);
     let budget = if passes == 0 { 0 } else { ENDLESS };
@@ -65,6 +66,7 @@ fn try_listed(t: Tally, file: &[u8], s: &[u8]) -> Tally {
     let entries = entries_of(word(s, 2));
     count(
         t,
+        log,
         is_listed(o, passes, entries.len() / 3, entries, &list),
         file,
     )
@@ -72,28 +74,34 @@ fn try_listed(t: Tally, file: &[u8], s: &[u8]) -> Tally {
 
 // ---- whole recordings
 
-fn try_budgets(t: Tally, file: &[u8]) -> Tally {
+fn try_budgets(t: Tally, log: &mut Log, file: &[u8]) -> Tally {
     let mut next = t;
     for budget in 0..5u32 {
-        next = try_questions(try_analysing(next, file, budget), file, budget, b"====");
+        next = try_questions(
+            try_analysing(next, log, file, budget),
+            log,
+            file,
+            budget,
+            b"====",
+        );
     }
     next
 }
 
 // `whole | COUNTS | LEVELS | EVENTS | ANSWER`: all that is compared of a small file; `brief`: one size
 // of each memory.
-pub(crate) fn try_recording(t: Tally, row: &[u8], whole: bool) -> Tally {
+pub(crate) fn try_recording(t: Tally, log: &mut Log, row: &[u8], whole: bool) -> Tally {
     let mut bytes = [0u8; 4400];
     let length = put_recording(row, 1, &mut bytes);
     let file = part_of(&bytes, 0, length);
-    let answered = try_listed(t, file, section(row, 4));
-    let read = try_reading(answered, file);
+    let answered = try_listed(t, log, file, section(row, 4));
+    let read = try_reading(answered, log, file);
     if !whole {
-        return try_one(read, file, ENDLESS, (length % 65536) as u32 / 4);
+        return try_one(read, log, file, ENDLESS, (length % 65536) as u32 / 4);
     }
-    let most = try_analysing(try_budgets(read, file), file, ENDLESS);
-    let asked = try_questions(most, file, ENDLESS, b"-===");
-    try_printing(try_writing(asked, file), file)
+    let most = try_analysing(try_budgets(read, log, file), log, file, ENDLESS);
+    let asked = try_questions(most, log, file, ENDLESS, b"-===");
+    try_printing(try_writing(asked, log, file), log, file)
 }
 
 // Puts a text whose lines end in ';', from its second byte to the last ';'; its length.
@@ -108,13 +116,13 @@ fn put_text(text: &mut [u8], s: &[u8]) -> usize {
 }
 
 // `prints | COUNTS | LEVELS | EVENTS | TEXT`: what is printed of a recording.
-pub(crate) fn try_prints(t: Tally, row: &[u8]) -> Tally {
+pub(crate) fn try_prints(t: Tally, log: &mut Log, row: &[u8]) -> Tally {
     let mut bytes = [0u8; 400];
     let mut text = [0u8; 400];
     let length = put_recording(row, 1, &mut bytes);
     let n = put_text(&mut text, section(row, 4));
     let file = part_of(&bytes, 0, length);
-    try_text(t, file, part_of(&text, 0, n))
+    try_text(t, log, file, part_of(&text, 0, n))
 }
 
 // ---- calls
@@ -140,13 +148,23 @@ fn call_in(head: &[u8], which: u8) -> Call {
 }
 
 // `HEAD | COUNTS | LEVELS | EVENTS | SIZES | ANSWER`.
-pub(crate) fn try_call(t: Tally, row: &[u8], which: u8) -> Tally {
+pub(crate) fn try_call(t: Tally, log: &mut Log, row: &[u8], which: u8) -> Tally {
     let mut bytes = [0u8; 4400];
     let c = call_in(section(row, 0), which);
     let length = put_recording(row, 1, &mut bytes);
     let file = part_of(&bytes, 0, length);
     let need = needed(c, file, b"");
-    try_sized(t, c, file, b"", b"", need, section(row, 4), section(row, 5))
+    try_sized(
+        t,
+        log,
+        c,
+        file,
+        b"",
+        b"",
+        need,
+        section(row, 4),
+        section(row, 5),
+    )
 }
 
 // Counts of the first section, and two parts of bytes: start bytes before '/' and post bytes behind it.
@@ -162,15 +180,23 @@ fn counts_of(row: &[u8]) -> Counts {
 
 // Writing records, start bytes and post bytes with the row's counts. With no sizes, each length of the
 // output up to some more than is needed: 12, or none.
-fn try_written(t: Tally, row: &[u8], records: &[u8], starts: &[u8], posts: &[u8]) -> Tally {
+fn try_written(
+    t: Tally,
+    log: &mut Log,
+    row: &[u8],
+    records: &[u8],
+    starts: &[u8],
+    posts: &[u8],
+) -> Tally {
     let c = writing(counts_of(row));
     let need = length_of(records, starts, posts);
     let sizes = section(row, 4);
     if sizes.len() == 0 {
-        return try_outputs(t, c, records, starts, posts, need);
+        return try_outputs(t, log, c, records, starts, posts, need);
     }
     try_sized(
         t,
+        log,
         c,
         records,
         starts,
@@ -183,7 +209,7 @@ fn try_written(t: Tally, row: &[u8], records: &[u8], starts: &[u8], posts: &[u8]
 
 // `write CUT | COUNTS | STARTS / POSTS | EVENTS | SIZES | ANSWER`: writing with so many record bytes
 // less.
-pub(crate) fn try_write(t: Tally, row: &[u8]) -> Tally {
+pub(crate) fn try_write(t: Tally, log: &mut Log, row: &[u8]) -> Tally {
     let mut bytes = [0u8; 400];
     let mut starts = [0u8; 80];
     let mut posts = [0u8; 80];
@@ -196,6 +222,7 @@ pub(crate) fn try_write(t: Tally, row: &[u8]) -> Tally {
     let m = put_levels(&mut posts, 0, behind);
     try_written(
         t,
+        log,
         row,
         part_of(&bytes, 0, if cut < end { end - cut } else { 0 }),
         part_of(&starts, 0, n),
@@ -205,6 +232,7 @@ pub(crate) fn try_write(t: Tally, row: &[u8]) -> Tally {
 
 fn try_outputs(
     t: Tally,
+    log: &mut Log,
     c: Call,
     records: &[u8],
     starts: &[u8],
@@ -214,33 +242,51 @@ fn try_outputs(
     let mut next = t;
     for room in 0..wrapping_add_usize(need, 9) {
         next = if room < need {
-            try_answer(next, c, records, starts, posts, output(room), b"refused 12")
+            try_answer(
+                next,
+                log,
+                c,
+                records,
+                starts,
+                posts,
+                output(room),
+                b"refused 12",
+            )
         } else {
-            try_answer(next, c, records, starts, posts, output(room), b"refused 0")
+            try_answer(
+                next,
+                log,
+                c,
+                records,
+                starts,
+                posts,
+                output(room),
+                b"refused 0",
+            )
         };
     }
     next
 }
 
 // Writing an empty recording with n start bytes and m post bytes.
-fn try_lend(t: Tally, c: Call, n: usize, m: usize, answer: &[u8]) -> Tally {
+fn try_lend(t: Tally, log: &mut Log, c: Call, n: usize, m: usize, answer: &[u8]) -> Tally {
     let bytes = [3u8; 65537];
     let starts = part_of(&bytes, 0, n);
     let posts = part_of(&bytes, 0, m);
-    try_answer(t, c, b"", starts, posts, output(8192), answer)
+    try_answer(t, log, c, b"", starts, posts, output(8192), answer)
 }
 
 // `lend STARTS POSTS | COUNTS | ANSWER`: an empty recording written with so many start bytes and post
 // bytes.
-pub(crate) fn try_lent_levels(t: Tally, row: &[u8]) -> Tally {
+pub(crate) fn try_lent_levels(t: Tally, log: &mut Log, row: &[u8]) -> Tally {
     let head = section(row, 0);
     let c = writing(counts_of(row));
-    try_lend(t, c, value(head, 1), value(head, 2), section(row, 2))
+    try_lend(t, log, c, value(head, 1), value(head, 2), section(row, 2))
 }
 
 // `starts STARTS POSTS | COUNTS`: each number of start bytes up to 79 in place of the right one;
 // `posts`: of post bytes.
-pub(crate) fn try_numbers(t: Tally, row: &[u8], posts: bool) -> Tally {
+pub(crate) fn try_numbers(t: Tally, log: &mut Log, row: &[u8], posts: bool) -> Tally {
     let head = section(row, 0);
     let c = writing(counts_of(row));
     let n = value(head, 1);
@@ -250,9 +296,9 @@ pub(crate) fn try_numbers(t: Tally, row: &[u8], posts: bool) -> Tally {
         let starts = if posts { n } else { i };
         let others = if posts { i } else { m };
         next = if starts == n && others == m {
-            try_lend(next, c, starts, others, b"refused 0")
+            try_lend(next, log, c, starts, others, b"refused 0")
         } else {
-            try_lend(next, c, starts, others, b"refused 13")
+            try_lend(next, log, c, starts, others, b"refused 13")
         };
     }
     next
@@ -284,22 +330,22 @@ fn shows_as(file: &[u8], x: usize, y: usize, s: &[u8]) -> bool {
 }
 
 // `shows X Y | COUNTS | LEVELS | EVENTS | ORDER | OTHER`: the order with x chosen, and with y chosen.
-pub(crate) fn try_shows(t: Tally, row: &[u8]) -> Tally {
+pub(crate) fn try_shows(t: Tally, log: &mut Log, row: &[u8]) -> Tally {
     let mut bytes = [0u8; 400];
     let head = section(row, 0);
     let x = value(head, 1);
     let y = value(head, 2);
     let length = put_recording(row, 1, &mut bytes);
     let file = part_of(&bytes, 0, length);
-    let there = count(t, shows_as(file, x, y, section(row, 4)), file);
-    let back = count(there, shows_as(file, y, x, section(row, 5)), file);
-    try_sizes(try_pair(back, file, x, y), file, x, y)
+    let there = count(t, log, shows_as(file, x, y, section(row, 4)), file);
+    let back = count(there, log, shows_as(file, y, x, section(row, 5)), file);
+    try_sizes(try_pair(back, log, file, x, y), log, file, x, y)
 }
 
 // ---- two recordings
 
 // Each length of each work memory and of the list, up to some more than is needed.
-fn try_rooms(t: Tally, c: Call, one: &[u8], two: &[u8], need: Lent) -> Tally {
+fn try_rooms(t: Tally, log: &mut Log, c: Call, one: &[u8], two: &[u8], need: Lent) -> Tally {
     let most = if need.work < need.list {
         need.list
     } else {
@@ -313,29 +359,29 @@ fn try_rooms(t: Tally, c: Call, one: &[u8], two: &[u8], need: Lent) -> Tally {
         work.work = n;
         other.other = n;
         list.list = n;
-        next = try_lent(next, c, one, two, b"", work);
-        next = try_lent(next, c, one, two, b"", other);
-        next = try_lent(next, c, one, two, b"", list);
+        next = try_lent(next, log, c, one, two, b"", work);
+        next = try_lent(next, log, c, one, two, b"", other);
+        next = try_lent(next, log, c, one, two, b"", list);
     }
     next
 }
 
 // `pairs ENTRIES`, or `refused ..`.
-fn try_joint(t: Tally, c: Call, one: &[u8], two: &[u8], s: &[u8]) -> Tally {
+fn try_joint(t: Tally, log: &mut Log, c: Call, one: &[u8], two: &[u8], s: &[u8]) -> Tally {
     let mut list = [0u16; 64];
     let mut out = [0u8; 1];
     let o = answer(c, one, two, &mut list, &mut out);
     if byte(word(s, 0), 0) == b'r' {
-        return try_refusal(t, o, s, one, two);
+        return try_refusal(t, log, o, s, one, two);
     }
     let entries = entries_of(word(s, 1));
     let listed = is_listed(o, 0, entries.len() / 5, entries, &list);
-    count_both(t, listed, one, two)
+    count_both(t, log, listed, one, two)
 }
 
 // `both | COUNTS | LEVELS | EVENTS | COUNTS | LEVELS | EVENTS | ANSWER`: two files, in every size of
 // lent memory.
-pub(crate) fn try_both(t: Tally, row: &[u8]) -> Tally {
+pub(crate) fn try_both(t: Tally, log: &mut Log, row: &[u8]) -> Tally {
     let mut a = [0u8; 400];
     let mut b = [0u8; 400];
     let n = put_recording(row, 1, &mut a);
@@ -343,9 +389,16 @@ pub(crate) fn try_both(t: Tally, row: &[u8]) -> Tally {
     let one = part_of(&a, 0, n);
     let two = part_of(&b, 0, m);
     let c = call_of(TOGETHER, 0, 0, 0);
-    let answered = try_joint(t, c, one, two, section(row, 7));
+    let answered = try_joint(t, log, c, one, two, section(row, 7));
     let need = needed(c, one, two);
-    try_ways(try_rooms(answered, c, one, two, need), c, one, two, WAYS)
+    try_ways(
+        try_rooms(answered, log, c, one, two, need),
+        log,
+        c,
+        one,
+        two,
+        WAYS,
+    )
 }
 
 // ---- edges
@@ -385,10 +438,10 @@ fn put_edge(file: &mut [u8], length: usize, start: u32, records: u32, s: Shape) 
 
 // Writing the bytes between preamble and trailer with these counts, in range or not: all as records,
 // and the first of them as records and the others as level bytes.
-fn try_between(t: Tally, between: &[u8], size: usize, c: Counts) -> Tally {
+fn try_between(t: Tally, log: &mut Log, between: &[u8], size: usize, c: Counts) -> Tally {
     let call = writing(c);
     let all = between.len();
-    let whole = try_lent(t, call, between, b"", b"", output(8192));
+    let whole = try_lent(t, log, call, between, b"", b"", output(8192));
     let low = wrapping_add_usize(size, c.semaphores as usize % 256);
     let mid = if c.edition == 3 && low < all {
         low
@@ -399,6 +452,7 @@ fn try_between(t: Tally, between: &[u8], size: usize, c: Counts) -> Tally {
     let starts = part_of(between, size, mid);
     try_lent(
         whole,
+        log,
         call,
         records,
         starts,
@@ -408,7 +462,7 @@ fn try_between(t: Tally, between: &[u8], size: usize, c: Counts) -> Tally {
 }
 
 // `edge LENGTH START RECORDS | COUNTS | refused NUMBER`: a file at the ends of what a trailer may say.
-pub(crate) fn try_edge(t: Tally, row: &[u8]) -> Tally {
+pub(crate) fn try_edge(t: Tally, log: &mut Log, row: &[u8]) -> Tally {
     let mut bytes = [0u8; 4400];
     let head = section(row, 0);
     let length = value(head, 1);
@@ -422,9 +476,13 @@ pub(crate) fn try_edge(t: Tally, row: &[u8]) -> Tally {
         shape_of(section(row, 1)),
     );
     let file = part_of(&bytes, 0, length);
-    let refused = try_refused(t, file, short(section(row, 2), 1), 0);
+    let refused = try_refused(t, log, file, short(section(row, 2), 1), 0);
     let end = if length < 16 { 0 } else { length - 16 };
     let between = part_of(file, start as usize, end);
-    let written = try_between(refused, between, records as usize * 4, counts_of(row));
-    try_reading(try_writing(try_analysing(written, file, 2), file), file)
+    let written = try_between(refused, log, between, records as usize * 4, counts_of(row));
+    try_reading(
+        try_writing(try_analysing(written, log, file, 2), log, file),
+        log,
+        file,
+    )
 }

@@ -1,0 +1,6 @@
+-- No difference is lost from turn to turn.
+use Rattle.std.proofs.Common.{◌≤◌}
+use Rattle.calls.proofs.tries.try_ways.Given as goal
+
+abbrev pub invariant-loop-way : goal.invariant-loop-way
+invariant-loop-way l = l.fn.t.wrong ≤ l.next.wrong
