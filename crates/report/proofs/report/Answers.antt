@@ -6,33 +6,14 @@ use Rattle.model.specs.Text.{bytes}
 use Rattle.report.proofs.Whole.{long_printed, called_holds, short_printed}
 use Rattle.report.proofs.report.Goals as goal
 
-returns-2 : tie.Need-returns-2
-returns-2 c =
-    let c3 = c.before.before.before.before.before.before.before.before.before in
-    let c2 = c3.before.before.before in
-    let c1 = c2.before in
-    short_printed _ _ _ _ _ _ _ _ _
-    record {
-      records = c1.before.records.ensures;
-      budget = c1.budget-of.ensures;
-      tasks = c2.tasks-of.ensures;
-      answer = c3.analyse.ensures.0;
-      work_left = c3.analyse.ensures.1.0;
-      list_left = c3.analyse.ensures.1.1;
-    }
-    _
-    _
-    _
-    c1.before.before.if1.false
-    c.before.before.put-answer.ensures
-
-pub records-records-requires : goal.records-records-requires
+pub returns-then-file-gt-MOST_BYTES : goal.returns-then-file-gt-MOST_BYTES
 unfolding bytes
-records-records-requires c =
-    long_printed _ _ _ _ _ _ c.if-file-gt-MOST_BYTES.true c.put_text.ensures
+returns-then-file-gt-MOST_BYTES c =
+    let told = long_printed _ _ _ _ _ _ c.if-file-gt-MOST_BYTES.true c.put_text.ensures
+    in record { value = told.0; out_after = told.1.0; work_after = told.1.1.0; list_after = told.1.1.1 }
 
-pub shape_of-work : goal.shape_of-work
-shape_of-work c =
+pub put_answer-requires : goal.put_answer-requires
+put_answer-requires c =
     called_holds _ _ _ _ _ _ _ _ _
     record {
       records = c.records-records.ensures;
@@ -42,3 +23,21 @@ shape_of-work c =
       work_left = c.analyse-found.ensures.work_after;
       list_left = c.analyse-found.ensures.list_after;
     }
+
+pub returns : goal.returns
+returns c =
+    let told = short_printed _ _ _ _ _ _ _ _ _
+    record {
+      records = c.records-records.ensures;
+      budget = c.budget_of-budget.ensures;
+      tasks = c.tasks_of-tasks.ensures;
+      answer = c.analyse-found.ensures.value;
+      work_left = c.analyse-found.ensures.work_after;
+      list_left = c.analyse-found.ensures.list_after;
+    }
+    _
+    _
+    _
+    c.if-file-gt-MOST_BYTES.false
+    c.put_answer.ensures
+    in record { value = told.0; out_after = told.1.0; work_after = told.1.1.0; list_after = told.1.1.1 }
