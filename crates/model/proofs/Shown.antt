@@ -1,7 +1,7 @@
 -- An order that shows a pair reversed: the written file holds the records in the order that brings the chosen event forward, which
 -- is admissible, so that reading accepts it; and the pairs that are answered so are those that the recorded vectors do not order.
 -- Assumes nothing.
-use Prim.Native.Nat.{ℕ, ◌+◌, ◌≤◌, ◌<◌}
+use Prim.Native.Nat.{ℕ, ◌≤◌, ◌<◌}
 use mathlib.Core.Path.{◌≡◌, sym, ap, subst, ◌∙◌}
 use mathlib.Core.Bool.{true, not}
 use mathlib.Core.List.{List, ◌++◌}

@@ -1,6 +1,5 @@
 -- analyse meets its contract: an accepted file is analysed, another's refusal is handed on. Assumes nothing.
 use mathlib.Core.Path.{sym, ◌∙◌}
-use borrow.Author.Rules.{rules}
 use Rattle.recording.proofs.Files.{refused_is}
 use Rattle.analysis.proofs.Answers.{refused-file}
 use Rattle.analysis.proofs.analyse.Goals as goal

@@ -1,6 +1,5 @@
 -- ask meets its contract: an accepted file is asked about, another's refusal is handed on. Assumes nothing.
 use mathlib.Core.Path.{refl, sym, ◌∙◌}
-use borrow.Author.Rules.{rules}
 use Rattle.recording.proofs.Files.{refused_is}
 use Rattle.work.proofs.Questions.{question_file}
 use Rattle.analysis.proofs.Answers.{by-question}

@@ -1,5 +1,4 @@
 -- `events::before_or_fork` meets its contract. Assumes nothing.
--- what was searched for is the event before
 use mathlib.Core.Path.{◌≡◌, sym, ap, ◌∙◌}
 use Prim.Native.Nat.{◌*◌}
 use native.Mathlib.Omega.{arith}

@@ -1,12 +1,10 @@
 -- `events::gather_in` meets its contract: the chains are those of the places from i on. Assumes nothing.
 use mathlib.Core.Path.{◌≡◌, sym, ap, ◌∙◌}
-use Prim.Native.Nat.{◌+◌, ◌-◌, ◌≤◌}
+use Prim.Native.Nat.{◌+◌, ◌-◌}
 use native.Mathlib.Omega.{arith}
-use lib.ListN.{length}
 use Rattle.model.specs.Recording.{event_in}
 use Rattle.model.specs.File.{events_of}
 use Rattle.model.specs.Pairs.{is_access_of}
-use Rattle.events.specs.Chains.{access_of, Chained}
 use Rattle.events.proofs.Laws.{events_length}
 use Rattle.events.proofs.Chains.{start, linked_next}
 use Rattle.events.proofs.gather_in.Goals as goal

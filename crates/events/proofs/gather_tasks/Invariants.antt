@@ -1,13 +1,7 @@
 -- `events::gather_tasks` meets its contract: the chains are those of the events from e on. Assumes nothing.
-use mathlib.Core.Path.{◌≡◌}
-use Prim.Native.Nat.{◌+◌, ◌*◌, ◌-◌, ◌/◌, ◌≤◌, ◌<◌}
-use native.Mathlib.Omega.{arith}
-use lib.ListN.{length, get_or}
-use Rattle.model.specs.Recording.{event_in}
-use Rattle.model.specs.File.{events_of}
+use Prim.Native.Nat.{◌/◌, ◌≤◌}
+use lib.ListN.{length}
 use Rattle.events.specs.Chains.{by_task, Chained}
-use Rattle.events.proofs.Laws.{task_at}
-use Rattle.events.proofs.Chains.{start, next_by}
 use Rattle.events.proofs.gather_tasks.Given as goal
 
 abbrev pub invariant-loop-e : goal.invariant-loop-e

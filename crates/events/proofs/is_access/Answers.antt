@@ -1,5 +1,4 @@
 -- `events::is_access` meets its contract. Assumes nothing.
-use borrow.Author.Rules.{rules}
 use Rattle.events.proofs.is_access.Goals as goal
 
 pub returns : goal.returns

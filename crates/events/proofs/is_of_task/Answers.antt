@@ -1,7 +1,5 @@
 -- `events::is_of_task` meets its contract. Assumes nothing.
 use mathlib.Core.Path.{ap}
-use native.Mathlib.Omega.{arith}
-use borrow.Author.Rules.{rules}
 use Rattle.model.specs.Recording.{of_task}
 use Rattle.events.proofs.is_of_task.Goals as goal
 

@@ -1,6 +1,5 @@
 -- `events::is_on` meets its contract. Assumes nothing.
 use mathlib.Core.Path.{ap}
-use native.Mathlib.Omega.{arith}
 use Rattle.model.specs.declared.Event.{Event}
 use Rattle.model.specs.Recording.{is_on}
 use Rattle.events.proofs.is_on.Goals as goal

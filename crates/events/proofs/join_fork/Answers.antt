@@ -1,6 +1,5 @@
 -- `events::join_fork` meets its contract. Assumes nothing.
 use mathlib.Core.Path.{ap, ◌∙◌}
-use native.Mathlib.Omega.{arith}
 use Rattle.model.specs.declared.Event.{Event}
 use Rattle.model.specs.File.{events_of}
 use Rattle.model.specs.Passes.{fork_of}

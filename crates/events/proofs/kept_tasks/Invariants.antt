@@ -1,12 +1,9 @@
 -- `events::kept_tasks` meets its contract: what is kept for the first e events is right. Assumes nothing.
-use mathlib.Core.Path.{◌≡◌, sym}
+use mathlib.Core.Path.{◌≡◌}
 use Prim.Native.Nat.{ℕ, ◌-◌, ◌≤◌, ◌<◌}
-use native.Mathlib.Omega.{arith}
-use lib.ListN.{length, get_or, length-set, length-replicate}
+use lib.ListN.{length, get_or}
 use Rattle.model.specs.Recording.{event_in}
 use Rattle.model.specs.File.{events_of}
-use Rattle.events.proofs.Laws.{events_length, task_at}
-use Rattle.events.proofs.Kept.{kept_next}
 use Rattle.events.proofs.kept_tasks.Given as goal
 
 abbrev pub invariant-loop-e : goal.invariant-loop-e

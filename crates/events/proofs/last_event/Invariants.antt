@@ -1,13 +1,11 @@
 -- `events::last_event` meets its contract. The invariant: the last among the records that are left is the last of the part, and those behind them are read. The measure is how many are left. Assumes nothing.
-use mathlib.Core.Path.{◌≡◌, sym, ap, ◌∙◌}
+use mathlib.Core.Path.{◌≡◌}
 use Prim.Native.Nat.{◌+◌, ◌/◌}
-use native.Mathlib.Omega.{arith}
 use lib.ListN.{length}
 use Rattle.model.specs.Numbers.{last_of}
 use Rattle.model.specs.Recording.{of_task, event_in}
 use Rattle.model.specs.Passes.{last_event}
 use Rattle.model.specs.File.{events_of}
-use Rattle.events.proofs.Laws.{events_length, last_none, last_here, last_lower, read_to}
 use Rattle.events.proofs.last_event.Given as goal
 
 abbrev pub invariant-loop-left : goal.invariant-loop-left

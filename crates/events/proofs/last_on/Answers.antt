@@ -1,10 +1,6 @@
 -- `events::last_on` meets its contract. The invariant: the last among the first i events is the last among all n. The measure is i. Assumes nothing.
-use mathlib.Core.Path.{◌≡◌, refl, ◌∙◌}
-use Prim.Native.Nat.{◌≤◌}
+use mathlib.Core.Path.{refl, ◌∙◌}
 use native.Mathlib.Omega.{arith}
-use Rattle.model.specs.Numbers.{last_of}
-use Rattle.model.specs.Recording.{is_on, event_in}
-use Rattle.model.specs.File.{events_of}
 use Rattle.events.proofs.Laws.{last_none, last_here, last_lower}
 use Rattle.events.proofs.last_on.Goals as goal
 

@@ -1,7 +1,6 @@
 -- `events::level_at` meets its contract. A byte is below 256, by the slice's rule. Assumes nothing.
 use mathlib.Core.Path.{sym}
 use native.Mathlib.Omega.{arith}
-use borrow.Author.Rules.{rules}
 use lib.ListN.{get_or-eq_default}
 use Rattle.events.proofs.level_at.Goals as goal
 

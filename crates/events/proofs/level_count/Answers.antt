@@ -1,6 +1,5 @@
 -- `events::level_count` meets its contract: the start bytes and the post bytes together. Assumes nothing.
 use native.Mathlib.Omega.{arith}
-use borrow.Author.Rules.{rules}
 use Rattle.model.specs.File.{level_count}
 use Rattle.events.proofs.level_count.Goals as goal
 

@@ -1,6 +1,5 @@
 -- `events::link` meets its contract. Assumes nothing.
 use native.Mathlib.Omega.{arith}
-use borrow.Author.Rules.{rules}
 use Rattle.events.specs.Chains.{linked}
 use Rattle.events.proofs.Chains.{within}
 use Rattle.events.proofs.link.Goals as goal

@@ -1,9 +1,7 @@
 -- `events::number_of` meets its contract. Assumes nothing.
--- a found event is below n
 use mathlib.Core.Path.{sym, ◌∙◌}
 use Prim.Native.Nat.{◌<◌}
 use native.Mathlib.Omega.{arith}
-use borrow.Author.Rules.{rules}
 use Rattle.events.proofs.Kept.{told_below, at_number, no_number}
 use Rattle.events.proofs.number_of.Goals as goal
 

@@ -1,15 +1,11 @@
 -- `events::positions` meets its contract: the running counts are those of the first e events, and what is kept for these is right.
 -- Assumes nothing.
-use mathlib.Core.Path.{◌≡◌, refl}
-use Prim.Native.Nat.{ℕ, ◌-◌, ◌*◌, ◌≤◌, ◌<◌}
-use native.Mathlib.Omega.{arith}
-use lib.ListN.{length, get_or, length-set, length-replicate}
+use mathlib.Core.Path.{◌≡◌}
+use Prim.Native.Nat.{ℕ, ◌-◌, ◌≤◌, ◌<◌}
+use lib.ListN.{length, get_or}
 use Rattle.model.specs.File.{events_of}
 use Rattle.model.specs.Vectors.{position}
 use Rattle.events.specs.Running.{Running}
-use Rattle.events.proofs.Laws.{events_length}
-use Rattle.events.proofs.Kept.{kept_next}
-use Rattle.events.proofs.Running.{start, next, placed, few}
 use Rattle.events.proofs.positions.Given as goal
 
 abbrev pub invariant-loop-e : goal.invariant-loop-e

@@ -1,5 +1,4 @@
 -- `events::post_of` meets its contract: the byte of the flag among the post bytes. Assumes nothing.
-use borrow.Author.Rules.{rules}
 use Rattle.events.proofs.post_of.Goals as goal
 
 pub returns : goal.returns

@@ -1,6 +1,5 @@
 -- `events::put_first` meets its contract. Assumes nothing.
 use mathlib.Core.Path.{refl}
-use native.Mathlib.Omega.{arith}
 use Rattle.events.proofs.put_first.Goals as goal
 
 pub returns : goal.returns

@@ -1,13 +1,11 @@
 -- `events::put_task` meets its contract: put so far are the task's events below e, which stands in its chain. Assumes nothing.
-use mathlib.Core.Path.{◌≡◌, refl, ap, ◌∙◌}
+use mathlib.Core.Path.{◌≡◌}
 use mathlib.Core.Bool.{true}
 use Prim.Native.Nat.{◌+◌, ◌-◌, ◌/◌, ◌≤◌, ◌<◌}
-use native.Mathlib.Omega.{arith}
-use lib.ListN.{length, get_or}
+use lib.ListN.{length}
 use lib.Seq.{sets}
-use Rattle.model.specs.Numbers.{each, picked}
-use Rattle.events.specs.Chains.{by_task, Nearest, head}
-use Rattle.events.proofs.Order.{picked_skip, picked_room, put_next, own_events_lem}
+use Rattle.model.specs.Numbers.{picked}
+use Rattle.events.specs.Chains.{by_task}
 use Rattle.events.proofs.put_task.Given as goal
 
 abbrev pub invariant-loop-e : goal.invariant-loop-e

@@ -1,12 +1,9 @@
 -- `events::sources` meets its contract: what is kept for the first e events is right. Assumes nothing.
-use mathlib.Core.Path.{◌≡◌, refl, sym, subst}
+use mathlib.Core.Path.{◌≡◌}
 use Prim.Native.Nat.{ℕ, ◌*◌, ◌-◌, ◌/◌, ◌%◌, ◌≤◌, ◌<◌}
-use native.Mathlib.Omega.{arith}
-use lib.ListN.{length, get_or, length-set, length-replicate}
+use lib.ListN.{length, get_or}
 use Rattle.model.specs.File.{events_of}
 use Rattle.events.specs.Kept.{found_below, source_of}
-use Rattle.events.proofs.Laws.{events_length}
-use Rattle.events.proofs.Kept.{three_kept, low_start, source_at}
 use Rattle.events.proofs.sources.Given as goal
 
 abbrev pub invariant-loop-e : goal.invariant-loop-e

@@ -1,7 +1,6 @@
 -- `events::start_bytes` meets its contract: the first bytes, all of them where there are no more. Assumes nothing.
 use mathlib.Core.Path.{sym}
 use native.Mathlib.Omega.{arith}
-use borrow.Author.Rules.{rules}
 use lib.Seq.{length-take-le, take_all}
 use Rattle.events.proofs.start_bytes.Goals as goal
 

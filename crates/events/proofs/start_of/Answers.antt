@@ -1,5 +1,4 @@
 -- `events::start_of` meets its contract: the byte of the semaphore among the start bytes. Assumes nothing.
-use borrow.Author.Rules.{rules}
 use Rattle.events.proofs.start_of.Goals as goal
 
 pub returns : goal.returns

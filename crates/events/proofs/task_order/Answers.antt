@@ -1,13 +1,10 @@
 -- `events::task_order` meets its contract: put so far are the events of the tasks below `task`. Assumes nothing.
 use mathlib.Core.Path.{◌≡◌, refl, sym}
-use Prim.Native.Nat.{ℕ, ◌-◌, ◌/◌, ◌≤◌}
+use Prim.Native.Nat.{ℕ}
 use native.Mathlib.Omega.{arith}
-use lib.ListN.{length, replicate, length-replicate}
-use lib.Seq.{sets}
+use lib.ListN.{replicate, length-replicate}
 use Rattle.model.specs.Numbers.{each}
 use Rattle.model.specs.File.{events_of}
-use Rattle.model.specs.Pairs.{own_events}
-use Rattle.events.specs.Chains.{by_task, Chained}
 use Rattle.events.proofs.Laws.{events_length}
 use Rattle.events.proofs.Order.{task_room, task_next, whole_order}
 use Rattle.events.proofs.task_order.Goals as goal

@@ -1,15 +1,12 @@
 -- `events::task_order` meets its contract: put so far are the events of the tasks below `task`. Assumes nothing.
-use mathlib.Core.Path.{◌≡◌, refl, sym}
-use Prim.Native.Nat.{ℕ, ◌-◌, ◌/◌, ◌≤◌}
-use native.Mathlib.Omega.{arith}
-use lib.ListN.{length, replicate, length-replicate}
+use mathlib.Core.Path.{◌≡◌}
+use Prim.Native.Nat.{◌-◌, ◌/◌, ◌≤◌}
+use lib.ListN.{length, replicate}
 use lib.Seq.{sets}
 use Rattle.model.specs.Numbers.{each}
 use Rattle.model.specs.File.{events_of}
 use Rattle.model.specs.Pairs.{own_events}
 use Rattle.events.specs.Chains.{by_task, Chained}
-use Rattle.events.proofs.Laws.{events_length}
-use Rattle.events.proofs.Order.{task_room, task_next, whole_order}
 use Rattle.events.proofs.task_order.Given as goal
 
 abbrev pub invariant-loop-task : goal.invariant-loop-task

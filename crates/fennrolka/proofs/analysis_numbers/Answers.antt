@@ -1,5 +1,4 @@
 -- `fennrolka::analysis_numbers` meets its contract: the numbers of the answer, or those of its refusal. Assumes nothing.
-use borrow.Author.Rules.{rules}
 use Rattle.fennrolka.proofs.Telling.{done_told, not_done_told}
 use Rattle.fennrolka.proofs.analysis_numbers.Goals as goal
 

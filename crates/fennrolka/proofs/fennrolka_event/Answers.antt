@@ -1,5 +1,4 @@
 -- `fennrolka::fennrolka_event` meets its contract: code and numbers are those of what looking answers. Assumes nothing.
-use borrow.Author.Rules.{rules}
 use Rattle.fennrolka.specs.Told.{code_of_looked, told_of_looked}
 use Rattle.fennrolka.proofs.Telling.{answered}
 use Rattle.fennrolka.proofs.fennrolka_event.Goals as goal

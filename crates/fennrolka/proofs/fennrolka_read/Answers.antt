@@ -1,5 +1,4 @@
 -- `fennrolka::fennrolka_read` meets its contract: code and numbers are those of what reading answers. Assumes nothing.
-use borrow.Author.Rules.{rules}
 use Rattle.fennrolka.specs.Told.{code_of_reading, told_of_reading}
 use Rattle.fennrolka.proofs.Telling.{answered}
 use Rattle.fennrolka.proofs.fennrolka_read.Goals as goal

@@ -1,7 +1,5 @@
 -- `fennrolka::look` meets its contract: an accepted file's events are those of its records' part. Assumes nothing.
--- the file is accepted with the trailer that was matched
 use native.Mathlib.Omega.{arith}
-use borrow.Author.Rules.{rules}
 use mathlib.Core.Path.{◌≡◌, sym, ◌∙◌}
 use Rattle.model.specs.declared.Reading.{Reading}
 use Rattle.model.specs.Reading.{reading_of}

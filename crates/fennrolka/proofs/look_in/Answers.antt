@@ -1,5 +1,4 @@
 -- `fennrolka::look_in` meets its contract. Each return rewrites the definition by the test that led to it. Assumes nothing.
-use native.Mathlib.Omega.{arith}
 use borrow.Author.Tests.{lt-ltb, le-ltb}
 use Rattle.events.proofs.Laws.{events_length}
 use Rattle.fennrolka.specs.Looking.{looked_among}

@@ -1,5 +1,4 @@
 -- `fennrolka::looked_numbers` meets its contract: the event's numbers, or the faulty record. Assumes nothing.
-use borrow.Author.Rules.{rules}
 use Rattle.fennrolka.proofs.Telling.{event_told, no_event_told}
 use Rattle.fennrolka.proofs.looked_numbers.Goals as goal
 

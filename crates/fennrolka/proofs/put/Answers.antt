@@ -1,7 +1,5 @@
 -- `fennrolka::put` meets its contract: past the end a store changes nothing. Assumes nothing.
 use mathlib.Core.Path.{refl, sym}
-use native.Mathlib.Omega.{arith}
-use borrow.Author.Rules.{rules}
 use lib.Seq.{set_out}
 use Rattle.fennrolka.proofs.put.Goals as goal
 

@@ -1,5 +1,4 @@
 -- `fennrolka::reading_code` meets its contract: 0, or the refusal's number. Assumes nothing.
-use borrow.Author.Rules.{rules}
 use Rattle.fennrolka.proofs.reading_code.Goals as goal
 
 pub returns-in-Accepted : goal.returns-in-Accepted

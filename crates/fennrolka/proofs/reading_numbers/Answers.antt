@@ -1,5 +1,4 @@
 -- `fennrolka::reading_numbers` meets its contract: the trailer's numbers, or the faulty record. Assumes nothing.
-use borrow.Author.Rules.{rules}
 use Rattle.fennrolka.proofs.Telling.{accepted_told, refused_told}
 use Rattle.fennrolka.proofs.reading_numbers.Goals as goal
 

@@ -1,11 +1,8 @@
 -- `fennrolka::tell` meets its contract: after i turns, the first i numbers are laid. Assumes nothing.
 use Prim.Native.Nat.{◌-◌, ◌≤◌}
-use mathlib.Core.Path.{◌≡◌, refl}
-use native.Mathlib.Omega.{arith}
+use mathlib.Core.Path.{◌≡◌}
 use lib.ListN.{length, take}
-use lib.Seq.{take_all}
 use Rattle.model.specs.Report.{laid}
-use Rattle.fennrolka.proofs.Laying.{none_laid, next_laid}
 use Rattle.fennrolka.proofs.tell.Given as goal
 
 abbrev pub invariant-loop-i : goal.invariant-loop-i

@@ -1,5 +1,4 @@
 -- `fennrolka::trailer_numbers` meets its contract: it widens each number of the trailer. Assumes nothing.
-use borrow.Author.Rules.{rules}
 use Rattle.fennrolka.proofs.Telling.{trailer_told}
 use Rattle.fennrolka.proofs.trailer_numbers.Goals as goal
 

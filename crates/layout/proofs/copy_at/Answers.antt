@@ -1,10 +1,9 @@
 -- `layout::copy_at` meets its contract. The invariant: the first i bytes are copied. The measure is what is left of the bytes. Assumes nothing.
 use mathlib.Core.Path.{◌≡◌, refl}
-use Prim.Native.Nat.{◌≤◌, ◌-◌}
 use native.Mathlib.Numerals.{add-one}
 use native.Mathlib.Omega.{arith}
 use lib.ListN.{length, length-set}
-use lib.Seq.{paste, paste-zero, paste-suc, take-length}
+use lib.Seq.{paste-zero, paste-suc, take-length}
 use Rattle.layout.proofs.copy_at.Goals as goal
 
 pub loop-i-init : goal.loop-i-init

@@ -1,6 +1,5 @@
 -- `layout::put_end` meets its contract. The level bytes are copied behind the n bytes, and the trailer behind them. Assumes nothing.
 use native.Mathlib.Omega.{arith}
-use borrow.Author.Rules.{rules}
 use Rattle.layout.proofs.Copies.{ended}
 use Rattle.layout.proofs.put_end.Goals as goal
 

@@ -1,8 +1,6 @@
 -- `layout::put_file` meets its contract. The records are copied to the front, and the end of the file behind them. Assumes nothing.
 use mathlib.Core.Path.{refl}
 use native.Mathlib.Nat.{zero-add}
-use native.Mathlib.Omega.{arith}
-use borrow.Author.Rules.{rules}
 use lib.ListN.{length}
 use Rattle.layout.proofs.Copies.{filed}
 use Rattle.layout.proofs.put_file.Goals as goal

@@ -1,7 +1,6 @@
 -- `layout::put_picked` meets its contract. The picked records stand at the front, and the end of the file behind them. Assumes nothing.
 use Prim.Native.Nat.{◌*◌}
 use native.Mathlib.Omega.{arith}
-use borrow.Author.Rules.{rules}
 use lib.ListN.{length}
 use Rattle.model.specs.Writing.{records_in}
 use Rattle.model.proofs.Picking.{in_length}

@@ -1,8 +1,6 @@
 -- `layout::put_record` meets its contract. The part that is copied is the record's four bytes. Assumes nothing.
--- the record lies within the record bytes
 use mathlib.Core.Path.{ap}
 use native.Mathlib.Omega.{arith}
-use borrow.Author.Rules.{rules}
 use lib.ListN.{length}
 use Rattle.layout.proofs.Copies.{as_part}
 use Rattle.layout.proofs.put_record.Goals as goal

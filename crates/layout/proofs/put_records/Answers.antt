@@ -1,12 +1,9 @@
 -- `layout::put_records` meets its contract. The invariant: the first i records of the order stand at the front, and the rest of the
 -- output is as it was. The measure is what is left of the order. Assumes nothing.
 use mathlib.Core.Path.{◌≡◌, refl}
-use mathlib.Core.List.{◌++◌}
-use Prim.Native.Nat.{◌*◌, ◌≤◌, ◌-◌}
 use native.Mathlib.Omega.{arith}
-use lib.ListN.{length, take, drop}
+use lib.ListN.{length}
 use lib.Seq.{take-length}
-use Rattle.model.specs.Writing.{records_in}
 use Rattle.layout.proofs.Copies.{none_picked, next_picked}
 use Rattle.layout.proofs.put_records.Goals as goal
 

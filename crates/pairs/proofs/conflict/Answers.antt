@@ -2,7 +2,6 @@
 use mathlib.Core.Path.{◌≡◌}
 use mathlib.Core.Bool.{Bool, not, ◌&&◌, ◌||◌}
 use lib.Dec.{eqb}
-use borrow.Author.Rules.{rules}
 use Rattle.model.specs.declared.Event.{Event}
 use Rattle.model.specs.Pairs.{is_write, is_access, is_single, conflict}
 use Rattle.pairs.proofs.conflict.Goals as goal

@@ -1,12 +1,11 @@
 -- count meets its contract: counted so far are the entries of the cells below `cell`. Assumes nothing.
-use mathlib.Core.Path.{◌≡◌, refl}
+use mathlib.Core.Path.{◌≡◌}
 use mathlib.Core.List.{[]}
 use Prim.Native.Nat.{◌*◌, ◌-◌, ◌≤◌}
-use native.Mathlib.Omega.{arith}
 use Rattle.model.specs.File.{recording_by}
-use Rattle.model.specs.Pairs.{cell_entries, entries_in}
+use Rattle.model.specs.Pairs.{cell_entries}
 use Rattle.passes.specs.Lent.{vectors_in}
-use Rattle.pairs.proofs.Race.{Counted, count_none, count_more, count_all, cell_few}
+use Rattle.pairs.proofs.Race.{Counted}
 use Rattle.pairs.proofs.count.Given as goal
 
 abbrev pub invariant-loop-cell : goal.invariant-loop-cell

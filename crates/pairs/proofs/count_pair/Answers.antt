@@ -1,6 +1,5 @@
 -- count_pair meets its contract. Assumes nothing.
 use mathlib.Core.Path.{sym, ap, ◌∙◌}
-use borrow.Author.Rules.{rules}
 use lib.ListN.{length}
 use Rattle.pairs.proofs.Race.{pair_hit, pair_miss}
 use Rattle.pairs.proofs.count_pair.Goals as goal

@@ -1,8 +1,7 @@
 -- count_row meets its contract: counted so far are the entries with the places below j, which stands in the chain of place i. Assumes nothing.
 use mathlib.Core.Path.{◌≡◌, sym, ap, ◌∙◌}
-use mathlib.Core.Bool.{true}
 use mathlib.Core.List.{List, []}
-use Prim.Native.Nat.{ℕ, ◌+◌, ◌-◌, ◌≤◌, ◌<◌}
+use Prim.Native.Nat.{ℕ, ◌+◌, ◌≤◌, ◌<◌}
 use native.Mathlib.Omega.{arith}
 use lib.ListN.{length, get_or}
 use Rattle.model.specs.Recording.{event_in}
@@ -10,10 +9,9 @@ use Rattle.model.specs.File.{events_of, recording_by}
 use Rattle.model.specs.Vectors.{Vectors}
 use Rattle.model.specs.Pairs.{Entry}
 use Rattle.passes.specs.Lent.{vectors_in}
-use Rattle.events.specs.Chains.{access_of}
 use Rattle.pairs.specs.Chains.{Nearest}
 use Rattle.pairs.proofs.Chains.{next_place}
-use Rattle.pairs.proofs.Race.{Counted, count_more, count_skip, count_all, pair_in, row_each, behind_hit, pair_few, pair_skip, pair_start}
+use Rattle.pairs.proofs.Race.{count_more, count_skip, count_all, pair_in, row_each, behind_hit, pair_few, pair_skip, pair_start}
 use Rattle.pairs.proofs.count_row.Goals as goal
 
 pub at_place-a-requires : goal.at_place-a-requires

@@ -1,19 +1,14 @@
 -- count_row meets its contract: counted so far are the entries with the places below j, which stands in the chain of place i. Assumes nothing.
-use mathlib.Core.Path.{◌≡◌, sym, ap, ◌∙◌}
+use mathlib.Core.Path.{◌≡◌}
 use mathlib.Core.Bool.{true}
-use mathlib.Core.List.{List, []}
-use Prim.Native.Nat.{ℕ, ◌+◌, ◌-◌, ◌≤◌, ◌<◌}
-use native.Mathlib.Omega.{arith}
+use mathlib.Core.List.{[]}
+use Prim.Native.Nat.{◌-◌, ◌≤◌, ◌<◌}
 use lib.ListN.{length, get_or}
 use Rattle.model.specs.Recording.{event_in}
 use Rattle.model.specs.File.{events_of, recording_by}
-use Rattle.model.specs.Vectors.{Vectors}
-use Rattle.model.specs.Pairs.{Entry}
 use Rattle.passes.specs.Lent.{vectors_in}
 use Rattle.events.specs.Chains.{access_of}
-use Rattle.pairs.specs.Chains.{Nearest}
-use Rattle.pairs.proofs.Chains.{next_place}
-use Rattle.pairs.proofs.Race.{Counted, count_more, count_skip, count_all, pair_in, row_each, behind_hit, pair_few, pair_skip, pair_start}
+use Rattle.pairs.proofs.Race.{Counted, pair_in}
 use Rattle.pairs.proofs.count_row.Given as goal
 
 abbrev pub invariant-loop-j : goal.invariant-loop-j

@@ -1,11 +1,10 @@
 -- list_all meets its contract: stored so far are the entries of the cells below `cell`. Assumes nothing.
-use mathlib.Core.Path.{◌≡◌, refl, ◌∙◌}
-use Prim.Native.Nat.{◌-◌, ◌≤◌}
+use mathlib.Core.Path.{refl, ◌∙◌}
 use native.Mathlib.Omega.{arith}
 use lib.ListN.{length}
 use Rattle.model.specs.Numbers.{each}
 use Rattle.model.specs.Pairs.{cell_entries, entries_in}
-use Rattle.pairs.specs.Lent.{over, Stored}
+use Rattle.pairs.specs.Lent.{over}
 use Rattle.pairs.proofs.Stores.{stored_none, stored_more, stored_room, stored_all}
 use Rattle.pairs.proofs.list_all.Goals as goal
 

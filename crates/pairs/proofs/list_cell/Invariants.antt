@@ -1,18 +1,12 @@
 -- list_cell meets its contract: stored so far are the rows of the places below i, which stands in the chain of the cell. Assumes nothing.
-use mathlib.Core.Path.{◌≡◌, refl, ap, ◌∙◌}
+use mathlib.Core.Path.{◌≡◌}
 use mathlib.Core.Bool.{true}
-use mathlib.Core.List.{List}
-use Prim.Native.Nat.{ℕ, ◌+◌, ◌*◌, ◌-◌, ◌≤◌, ◌<◌}
-use native.Mathlib.Omega.{arith}
-use lib.ListN.{length, get_or}
+use Prim.Native.Nat.{◌-◌, ◌≤◌, ◌<◌}
+use lib.ListN.{length}
 use Rattle.model.specs.Numbers.{each}
-use Rattle.model.specs.Pairs.{Entry, cell_entries}
-use Rattle.pairs.specs.Lent.{over, row_of, Stored}
-use Rattle.events.specs.Chains.{access_of, head}
-use Rattle.pairs.specs.Chains.{Nearest, InChain}
-use Rattle.pairs.proofs.Chains.{in_chain, first_place, next_place}
-use Rattle.pairs.proofs.Race.{row_in, cell_each, row_hit, row_skip}
-use Rattle.pairs.proofs.Stores.{stored_none, stored_more, stored_skip, stored_room, stored_all}
+use Rattle.pairs.specs.Lent.{over, Stored}
+use Rattle.events.specs.Chains.{access_of}
+use Rattle.pairs.proofs.Race.{row_in}
 use Rattle.pairs.proofs.list_cell.Given as goal
 
 abbrev pub invariant-loop-i : goal.invariant-loop-i

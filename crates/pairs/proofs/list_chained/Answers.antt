@@ -1,7 +1,6 @@
 -- list_chained meets its contract. Assumes nothing.
 use native.Mathlib.Nat.{mul-le-mul}
 use native.Mathlib.Omega.{arith}
-use borrow.Author.Rules.{rules}
 use lib.ListN.{length}
 use Rattle.passes.specs.Lent.{vectors_in}
 use Rattle.pairs.proofs.Race.{list_few}

@@ -1,5 +1,4 @@
 -- list_in meets its contract: the chains are those of the accesses. Assumes nothing.
-use borrow.Author.Rules.{rules}
 use Rattle.pairs.proofs.list_in.Goals as goal
 
 pub gather_in-chain-requires : goal.gather_in-chain-requires

@@ -1,16 +1,14 @@
 -- list_row meets its contract: stored so far are the entries with the places below j, which stands in the chain of place i. Assumes nothing.
 use mathlib.Core.Path.{◌≡◌, refl, ap, ◌∙◌}
-use mathlib.Core.Bool.{true}
 use mathlib.Core.List.{List}
-use Prim.Native.Nat.{ℕ, ◌+◌, ◌*◌, ◌-◌, ◌≤◌, ◌<◌}
+use Prim.Native.Nat.{ℕ, ◌+◌, ◌*◌, ◌≤◌, ◌<◌}
 use native.Mathlib.Omega.{arith}
 use lib.ListN.{length, get_or}
 use Rattle.model.specs.Numbers.{each}
 use Rattle.model.specs.Recording.{event_in}
 use Rattle.model.specs.File.{events_of}
 use Rattle.model.specs.Pairs.{Entry, pair_at}
-use Rattle.pairs.specs.Lent.{over, row_of, Stored}
-use Rattle.events.specs.Chains.{access_of}
+use Rattle.pairs.specs.Lent.{over, row_of}
 use Rattle.pairs.specs.Chains.{Nearest}
 use Rattle.pairs.proofs.Chains.{next_place}
 use Rattle.pairs.proofs.Race.{pair_in, row_each, behind_hit, pair_skip, pair_start}

@@ -1,6 +1,5 @@
 -- mark meets its contract. Assumes nothing.
 use mathlib.Core.Path.{sym, ◌∙◌}
-use borrow.Author.Rules.{rules}
 use Rattle.pairs.proofs.Race.{mark_by}
 use Rattle.pairs.proofs.mark.Goals as goal
 

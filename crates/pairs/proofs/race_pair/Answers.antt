@@ -1,11 +1,8 @@
 -- race_pair meets its contract. Assumes nothing.
--- what conflict answered, of the two events
 use mathlib.Core.Path.{ap}
 use mathlib.Core.Bool.{not}
 use mathlib.Core.Path.{◌≡◌, sym, ap₂, ◌∙◌}
 use mathlib.Core.List.{[]}
-use native.Mathlib.Omega.{arith}
-use borrow.Author.Rules.{rules}
 use borrow.Author.Tests.{not-true, not-false}
 use Rattle.model.specs.Recording.{Recording, event}
 use Rattle.model.specs.File.{recording_by}

@@ -1,6 +1,5 @@
 -- relation meets its contract: each test that was made is rewritten by what it showed. Assumes nothing.
 use mathlib.Core.Path.{sym, ◌∙◌}
-use borrow.Author.Rules.{rules}
 use Rattle.pairs.proofs.relation.Goals as goal
 
 pub returns-then-ordered : goal.returns-then-ordered

@@ -1,5 +1,4 @@
 -- unordered meets its contract. Assumes nothing.
-use borrow.Author.Rules.{rules}
 use Rattle.pairs.proofs.Order.{unordered_by}
 use Rattle.pairs.proofs.unordered.Goals as goal
 

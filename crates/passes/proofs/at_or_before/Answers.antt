@@ -1,10 +1,8 @@
 -- at_or_before meets its contract: the number read is that of b for a's task.
 -- Assumes nothing.
--- the task of a
 use mathlib.Core.Path.{sym, ap, ap₂, ◌∙◌}
 use Prim.Native.Nat.{◌<◌}
 use native.Mathlib.Omega.{arith}
-use borrow.Author.Rules.{rules}
 use lib.Dec.{leb}
 use lib.ListN.{length}
 use Rattle.model.specs.declared.Event.{Event}

@@ -1,14 +1,11 @@
 -- candidates meets its contract: in the walk those picked so far are in front, and behind them is what was there.
 -- Assumes nothing.
 use mathlib.Core.Path.{◌≡◌, refl, sym, ap, ◌∙◌}
-use mathlib.Core.Logic.{⊎_elim}
 use mathlib.Core.Bool.{Bool, not}
 use mathlib.Core.List.{List, ◌++◌}
-use Prim.Native.Nat.{ℕ, ◌+◌, ◌-◌, ◌≤◌, ◌<◌}
+use Prim.Native.Nat.{ℕ, ◌+◌, ◌<◌}
 use native.Mathlib.Omega.{arith}
-use borrow.Author.Rules.{rules}
 use lib.ListN.{length, get_or, drop}
-use Rattle.model.specs.Numbers.{picked}
 use Rattle.model.specs.File.{events_of}
 use Rattle.model.specs.Vectors.{Vectors, ordered}
 use Rattle.events.specs.Chains.{slot_of, head, on_at, Nearest, Chain}

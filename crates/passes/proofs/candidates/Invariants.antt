@@ -1,22 +1,14 @@
 -- candidates meets its contract: in the walk those picked so far are in front, and behind them is what was there.
 -- Assumes nothing.
-use mathlib.Core.Path.{◌≡◌, refl, sym, ap, ◌∙◌}
-use mathlib.Core.Logic.{⊎_elim}
-use mathlib.Core.Bool.{Bool, not}
-use mathlib.Core.List.{List, ◌++◌}
-use Prim.Native.Nat.{ℕ, ◌+◌, ◌-◌, ◌≤◌, ◌<◌}
-use native.Mathlib.Omega.{arith}
-use borrow.Author.Rules.{rules}
-use lib.ListN.{length, get_or, drop}
+use mathlib.Core.Path.{◌≡◌}
+use mathlib.Core.List.{◌++◌}
+use Prim.Native.Nat.{◌-◌, ◌≤◌}
+use lib.ListN.{length, drop}
 use Rattle.model.specs.Numbers.{picked}
 use Rattle.model.specs.File.{events_of}
-use Rattle.model.specs.Vectors.{Vectors, ordered}
-use Rattle.events.specs.Chains.{slot_of, head, on_at, Nearest, Chain}
+use Rattle.events.specs.Chains.{on_at, Nearest}
 use Rattle.passes.specs.Lent.{vectors_in}
 use Rattle.passes.specs.Steps.{candidate}
-use Rattle.passes.proofs.Tests.{and_passed}
-use Rattle.passes.proofs.Waits.{picked_start, Picks, picks_hit, picks_miss, candidates_all}
-use Rattle.passes.proofs.Walks.{arrived, picked_leap}
 use Rattle.passes.proofs.candidates.Given as goal
 
 abbrev pub invariant-loop-a : goal.invariant-loop-a

@@ -1,18 +1,13 @@
 -- pass meets its contract: the events below e have had their turn.
 -- Assumes nothing.
-use mathlib.Core.Path.{◌≡◌, refl, ◌∙◌}
+use mathlib.Core.Path.{◌≡◌}
 use Prim.Native.Nat.{◌-◌, ◌≤◌}
-use native.Mathlib.Omega.{arith}
 use lib.ListN.{length}
-use Rattle.model.specs.Recording.{size}
 use Rattle.model.specs.File.{recording_by}
 use Rattle.model.specs.Passes.{pass_to}
 use Rattle.vectors.specs.Rows.{Rose}
-use Rattle.vectors.proofs.Rising.{rose_none, rose_then}
 use Rattle.passes.specs.Lent.{vectors_in}
 use Rattle.passes.specs.Stamps.{KnownIn}
-use Rattle.passes.proofs.Runs.{pass_start, pass_next, pass_end}
-use Rattle.passes.proofs.Stamps.{known_pass}
 use Rattle.passes.proofs.pass.Given as goal
 
 abbrev pub invariant-loop-e : goal.invariant-loop-e

@@ -1,8 +1,7 @@
 -- passes meets its contract: so far as many passes were made as are counted, and none of them was quiet.
 -- Assumes nothing.
 use mathlib.Core.Bool.{not}
-use mathlib.Core.Path.{◌≡◌, ap, ◌∙◌}
-use Prim.Native.Nat.{◌+◌, ◌*◌, ◌-◌, ◌≤◌}
+use mathlib.Core.Path.{ap, ◌∙◌}
 use native.Mathlib.Omega.{arith}
 use Rattle.model.specs.Recording.{size}
 use Rattle.model.specs.File.{recording_by}
@@ -10,9 +9,7 @@ use Rattle.model.specs.Vectors.{start}
 use Rattle.model.proofs.Climb.{start_shaped}
 use Rattle.vectors.specs.Rows.{chunks}
 use Rattle.vectors.proofs.Chunks.{chunks_flat}
-use Rattle.passes.specs.Lent.{vectors_in, Fitting}
-use Rattle.passes.specs.Stamps.{KnownIn}
-use Rattle.passes.proofs.Runs.{Made, quiet, made_none, made_more, made_quiet, made_spent, numbers_of}
+use Rattle.passes.proofs.Runs.{quiet, made_none, made_more, made_quiet, made_spent, numbers_of}
 use Rattle.passes.proofs.Stamps.{known_first}
 use Rattle.passes.proofs.passes.Goals as goal
 

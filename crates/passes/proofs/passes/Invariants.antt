@@ -1,18 +1,11 @@
 -- passes meets its contract: so far as many passes were made as are counted, and none of them was quiet.
 -- Assumes nothing.
-use mathlib.Core.Path.{◌≡◌, ap, ◌∙◌}
+use mathlib.Core.Path.{◌≡◌}
 use Prim.Native.Nat.{◌+◌, ◌*◌, ◌-◌, ◌≤◌}
-use native.Mathlib.Omega.{arith}
-use Rattle.model.specs.Recording.{size}
 use Rattle.model.specs.File.{recording_by}
-use Rattle.model.specs.Vectors.{start}
-use Rattle.model.proofs.Climb.{start_shaped}
-use Rattle.vectors.specs.Rows.{chunks}
-use Rattle.vectors.proofs.Chunks.{chunks_flat}
 use Rattle.passes.specs.Lent.{vectors_in, Fitting}
 use Rattle.passes.specs.Stamps.{KnownIn}
-use Rattle.passes.proofs.Runs.{Made, quiet, made_none, made_more, made_quiet, made_spent, numbers_of}
-use Rattle.passes.proofs.Stamps.{known_first}
+use Rattle.passes.proofs.Runs.{Made}
 use Rattle.passes.proofs.passes.Given as goal
 
 abbrev pub invariant-loop-made : goal.invariant-loop-made

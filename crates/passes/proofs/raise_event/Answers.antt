@@ -1,7 +1,6 @@
 -- raise_event meets its contract.
 -- Assumes nothing.
 use mathlib.Core.Path.{◌∙◌}
-use native.Mathlib.Omega.{arith}
 use Rattle.model.specs.File.{recording_by}
 use Rattle.vectors.proofs.Rising.{rose_then}
 use Rattle.model.proofs.Levels.{step_one_levels}

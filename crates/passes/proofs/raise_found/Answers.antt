@@ -2,7 +2,6 @@
 -- Assumes nothing.
 use mathlib.Core.Path.{sym, ap, ◌∙◌}
 use native.Mathlib.Omega.{arith}
-use borrow.Author.Rules.{rules}
 use Rattle.passes.specs.Lent.{raised_found}
 use Rattle.vectors.proofs.Rising.{rose_none}
 use Rattle.passes.proofs.raise_found.Goals as goal

@@ -1,11 +1,9 @@
 -- raise_source meets its contract: what is kept at the place is the source.
 -- Assumes nothing.
--- N, by the length of the records
 use mathlib.Core.Path.{◌≡◌, ap, subst, ◌∙◌}
 use mathlib.Core.List.{[]}
 use Prim.Native.Nat.{ℕ, ◌/◌}
 use native.Mathlib.Omega.{arith}
-use borrow.Author.Rules.{rules}
 use lib.ListN.{length, get_or}
 use Rattle.model.specs.declared.Found.{Found}
 use Rattle.model.specs.Numbers.{found}

@@ -1,6 +1,5 @@
 -- raise_wait meets its contract: the part lent on is the candidates.
 -- Assumes nothing.
--- the candidates, as the definition has them
 use mathlib.Core.Path.{◌≡◌, sym, ap, ◌∙◌}
 use mathlib.Core.List.{List}
 use Prim.Native.Nat.{ℕ, ◌≤◌}

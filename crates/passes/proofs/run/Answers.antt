@@ -1,7 +1,6 @@
 -- run meets its contract: the starting vectors are written, and then the passes made.
 -- Assumes nothing.
 use mathlib.Core.Path.{ap, ◌∙◌}
-use native.Mathlib.Omega.{arith}
 use Rattle.model.specs.Vectors.{flat}
 use Rattle.model.proofs.Levels.{start_levels}
 use Rattle.passes.proofs.run.Goals as goal

@@ -1,6 +1,5 @@
 -- served_at meets its contract. Assumes nothing.
 use native.Mathlib.Omega.{arith}
-use borrow.Author.Rules.{rules}
 use Rattle.model.specs.Recording.{wait, flag_wait}
 use Rattle.model.proofs.Tests.{eq-eqb, ne_eqb}
 use Rattle.passes.specs.Stamps.{served_at}

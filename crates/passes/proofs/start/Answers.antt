@@ -1,16 +1,12 @@
 -- start meets its contract: to write the later rows over what is there gives the whole.
 -- Assumes nothing.
-use mathlib.Core.Path.{◌≡◌, refl, ◌∙◌}
+use mathlib.Core.Path.{refl, ◌∙◌}
 use mathlib.Core.List.{[]}
-use Prim.Native.Nat.{◌+◌, ◌-◌, ◌≤◌, ◌<◌}
+use Prim.Native.Nat.{◌<◌}
 use native.Mathlib.Omega.{arith}
-use borrow.Author.Rules.{rules}
-use lib.ListN.{length}
-use lib.Seq.{sets}
 use Rattle.model.specs.Recording.{size}
 use Rattle.model.specs.File.{recording_by}
-use Rattle.model.specs.Vectors.{flat, start}
-use Rattle.passes.proofs.Starts.{rows_from, rows_start, rows_end, start_length, row_fits, row_stored, start_stored}
+use Rattle.passes.proofs.Starts.{rows_start, rows_end, start_length, row_fits, row_stored, start_stored}
 use Rattle.passes.proofs.start.Goals as goal
 
 pub loop-e-init : goal.loop-e-init

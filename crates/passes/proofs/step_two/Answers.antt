@@ -1,10 +1,8 @@
 -- step_two meets its contract: a wait of either kind is raised by what serves it; any other event needs none, and is raised to nothing.
 -- Assumes nothing.
--- the event e is at hand
 use mathlib.Core.Path.{◌≡◌, sym, ap, ◌∙◌}
 use Prim.Native.Nat.{◌<◌}
 use native.Mathlib.Omega.{arith}
-use borrow.Author.Rules.{rules}
 use Rattle.model.specs.declared.Event.{Event}
 use Rattle.model.specs.Recording.{Recording, size, event_in, wait, flag_wait}
 use Rattle.model.specs.File.{recording_by}

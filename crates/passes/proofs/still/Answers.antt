@@ -1,7 +1,6 @@
 -- still meets its contract. Assumes nothing.
 use native.Mathlib.Omega.{arith}
 use Prim.Native.Nat.{◌+◌, ◌*◌}
-use borrow.Author.Rules.{rules}
 use Rattle.passes.specs.Stamps.{still}
 use Rattle.passes.proofs.still.Goals as goal
 

@@ -1,6 +1,4 @@
 -- touch meets its contract. Assumes nothing.
-use native.Mathlib.Omega.{arith}
-use borrow.Author.Rules.{rules}
 use Rattle.passes.proofs.touch.Goals as goal
 
 pub returns : goal.returns

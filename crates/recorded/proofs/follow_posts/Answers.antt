@@ -2,9 +2,8 @@
 -- Assumes nothing.
 use mathlib.Core.Path.{◌≡◌, sym, ap, ◌∙◌}
 use mathlib.Core.List.{List}
-use Prim.Native.Nat.{◌+◌, ◌-◌, ◌/◌, ◌≤◌, ◌<◌}
+use Prim.Native.Nat.{◌+◌, ◌/◌, ◌<◌}
 use native.Mathlib.Omega.{arith}
-use borrow.Author.Rules.{rules}
 use lib.Dec.{ltb}
 use lib.ListN.{length, get_or, take}
 use Rattle.model.specs.declared.Found.{Found}
@@ -14,8 +13,7 @@ use Rattle.model.specs.Passes.{posts_on}
 use Rattle.model.proofs.Tests.{cases, first, second, and_false, tests}
 use Rattle.vectors.proofs.Chunks.{next_row, chunks_shaped}
 use Rattle.events.specs.Chains.{on_at, slot_of, head, Nearest, Chain}
-use Rattle.passes.specs.Lent.{vectors_in, Fitting}
-use Rattle.recorded.specs.Matching.{AtHand}
+use Rattle.passes.specs.Lent.{vectors_in}
 use Rattle.passes.specs.Steps.{taken}
 use Rattle.recorded.proofs.Taken.{taken_none, found_then}
 use Rattle.passes.proofs.Walks.{has_slots}

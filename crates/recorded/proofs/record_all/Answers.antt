@@ -1,17 +1,13 @@
 -- record_all meets its contract: the recorded vectors of the events below e have been made, and their waits matched.
 -- Assumes nothing.
 use mathlib.Core.Path.{◌≡◌, ap, ◌∙◌}
-use Prim.Native.Nat.{◌-◌, ◌≤◌}
 use native.Mathlib.Omega.{arith}
 use Rattle.model.specs.Recording.{size}
-use Rattle.model.specs.File.{levels_by, recording_by}
+use Rattle.model.specs.File.{recording_by}
 use Rattle.model.specs.Vectors.{flat, start}
-use Rattle.model.specs.Recorded.{recorded_to}
 use Rattle.model.proofs.Climb.{start_shaped}
 use Rattle.vectors.specs.Rows.{chunks}
 use Rattle.vectors.proofs.Chunks.{chunks_flat}
-use Rattle.passes.specs.Lent.{vectors_in, Fitting}
-use Rattle.recorded.specs.Matching.{Matching}
 use Rattle.model.proofs.Levels.{start_levels}
 use Rattle.recorded.proofs.Matching.{start as first-match}
 use Rattle.passes.proofs.Runs.{numbers_of}

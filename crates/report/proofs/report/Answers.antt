@@ -1,7 +1,5 @@
 -- `report::report` meets its contract: the answer of the analysis is put as lines, and these are the report of the file.
 -- Assumes nothing.
-use native.Mathlib.Omega.{arith}
-use borrow.Author.Rules.{rules}
 use Rattle.model.specs.Text.{bytes}
 use Rattle.report.proofs.Whole.{long_printed, called_holds, short_printed}
 use Rattle.report.proofs.report.Goals as goal

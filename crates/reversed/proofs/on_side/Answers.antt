@@ -1,5 +1,4 @@
 -- on_side meets its contract: the test, or its opposite. Assumes nothing.
-use borrow.Author.Rules.{rules}
 use Rattle.reversed.proofs.on_side.Goals as goal
 
 pub returns-then-first : goal.returns-then-first

@@ -1,17 +1,11 @@
 -- put_side meets its contract: put so far are the events of this side below a. Assumes nothing.
-use mathlib.Core.Path.{◌≡◌, refl, sym, ap, ◌∙◌}
-use mathlib.Core.Logic.{⊎_elim}
-use mathlib.Core.Bool.{Bool, true}
-use Prim.Native.Nat.{ℕ, ◌+◌, ◌-◌, ◌≤◌, ◌<◌}
-use native.Mathlib.Omega.{arith}
+use mathlib.Core.Path.{◌≡◌}
+use Prim.Native.Nat.{◌+◌, ◌-◌, ◌≤◌}
 use lib.ListN.{length}
 use lib.Seq.{sets}
-use Rattle.model.specs.Numbers.{each, picked}
+use Rattle.model.specs.Numbers.{picked}
 use Rattle.model.specs.File.{events_of}
-use Rattle.events.proofs.Order.{picked_room}
-use Rattle.passes.proofs.Waits.{picked_miss}
 use Rattle.reversed.specs.Lent.{on_side}
-use Rattle.reversed.proofs.Sides.{put_hit}
 use Rattle.reversed.proofs.put_side.Given as goal
 
 abbrev pub invariant-loop-a : goal.invariant-loop-a

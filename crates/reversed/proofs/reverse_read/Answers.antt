@@ -1,8 +1,6 @@
 -- reverse_read meets its contract: what the checks answer, and where they pass what is written. Assumes nothing.
--- the records and the level bytes are cut out of the file
 use native.Mathlib.Omega.{arith}
 use mathlib.Core.Path.{sym, ◌∙◌}
-use borrow.Author.Rules.{rules}
 use Rattle.passes.specs.Lent.{Numbered}
 use Rattle.work.specs.Lent.{Ready, Roomy}
 use Rattle.work.proofs.Accepted.{inside, levels_inside, few_levels, ready}

@@ -1,5 +1,4 @@
 -- write_forward meets its contract: each of its answers is one of the cases. Assumes nothing.
--- the recorded vectors order neither event before the other
 use mathlib.Core.Bool.{not}
 use mathlib.Core.Path.{ap}
 use mathlib.Core.Path.{◌≡◌, sym, ◌∙◌}
@@ -7,7 +6,6 @@ use mathlib.Core.Bool.{true}
 use mathlib.Core.List.{List}
 use Prim.Native.Nat.{ℕ, ◌*◌, ◌/◌}
 use native.Mathlib.Omega.{arith}
-use borrow.Author.Rules.{rules}
 use borrow.Author.Tests.{not-true, not-false}
 use lib.ListN.{length, take}
 use Rattle.model.specs.File.{events_of}

@@ -1,6 +1,5 @@
 -- write_reversed meets its contract: of an accepted file the order is written, another's refusal is handed on. Assumes nothing.
 use mathlib.Core.Path.{sym, ◌∙◌}
-use borrow.Author.Rules.{rules}
 use Rattle.recording.proofs.Files.{refused_is}
 use Rattle.work.proofs.Questions.{question_file}
 use Rattle.reversed.proofs.Answers.{refused-question}

@@ -1,20 +1,15 @@
 -- at_position meets its contract. The invariant: the last among the first i events is the last of all. The measure is i. Assumes nothing.
-use mathlib.Core.Path.{◌≡◌, sym, ap, ◌∙◌}
+use mathlib.Core.Path.{◌≡◌}
 use mathlib.Core.Bool.{Bool, ◌&&◌}
 use mathlib.Core.List.{List}
 use Prim.Native.Nat.{ℕ, ◌/◌, ◌≤◌}
-use native.Mathlib.Omega.{arith}
 use lib.Dec.{eqb}
 use lib.ListN.{length}
-use Rattle.model.specs.declared.Found.{Found}
 use Rattle.model.specs.Numbers.{last_of}
 use Rattle.model.specs.Recording.{of_task, event_in}
 use Rattle.model.specs.File.{events_of}
 use Rattle.model.specs.Vectors.{position}
 use Rattle.model.specs.Together.{at_position}
-use Rattle.events.specs.Kept.{Below}
-use Rattle.events.proofs.Laws.{events_length, last_none, last_here, last_lower}
-use Rattle.events.proofs.Kept.{all_below}
 use Rattle.stretches.proofs.at_position.Given as goal
 
 -- the test

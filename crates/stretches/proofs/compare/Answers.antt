@@ -1,6 +1,5 @@
 -- compare meets its contract: the stretches of an accepted file are compared, another's refusal is handed on. Assumes nothing.
 use mathlib.Core.Path.{sym, ◌∙◌}
-use borrow.Author.Rules.{rules}
 use Rattle.recording.proofs.Files.{refused_is}
 use Rattle.stretches.proofs.Answers.{refused-file}
 use Rattle.stretches.proofs.compare.Goals as goal

@@ -1,10 +1,8 @@
 -- compare_read meets its contract: each of its answers is one of the cases. Assumes nothing.
--- the records and the level bytes are cut out of the file
 use mathlib.Core.Bool.{not}
 use mathlib.Core.Path.{◌≡◌, sym, ap, ◌∙◌}
 use mathlib.Core.Bool.{true}
 use native.Mathlib.Omega.{arith}
-use borrow.Author.Rules.{rules}
 use borrow.Author.Tests.{not-true, not-false}
 use Rattle.model.specs.Recording.{Recording}
 use Rattle.model.specs.File.{events_of, recording_by}

@@ -1,10 +1,8 @@
 -- ends_ordered meets its contract: what is found of the two ends. Assumes nothing.
--- what is found is an event
 use mathlib.Core.Path.{◌≡◌, refl, subst, ◌∙◌}
 use mathlib.Core.List.{List}
 use Prim.Native.Nat.{ℕ, ◌/◌}
 use native.Mathlib.Omega.{arith}
-use borrow.Author.Rules.{rules}
 use lib.ListN.{length}
 use Rattle.model.specs.declared.Found.{Found}
 use Rattle.events.specs.Kept.{Below}

@@ -1,7 +1,6 @@
 -- is_stretch meets its contract. Assumes nothing.
 use mathlib.Core.Path.{ap, ◌∙◌}
 use mathlib.Core.List.{[]}
-use borrow.Author.Rules.{rules}
 use Rattle.model.specs.File.{recording_by}
 use Rattle.stretches.specs.Lent.{is_found}
 use Rattle.stretches.proofs.Answers.{stretch-found}

@@ -1,6 +1,5 @@
 -- lead_by_ends meets its contract. Assumes nothing.
 use mathlib.Core.Path.{sym, ◌∙◌}
-use borrow.Author.Rules.{rules}
 use Rattle.stretches.proofs.lead_by_ends.Goals as goal
 
 pub returns-then-ends_ordered : goal.returns-then-ends_ordered

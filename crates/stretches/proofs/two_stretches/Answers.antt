@@ -1,7 +1,6 @@
 -- two_stretches meets its contract. Assumes nothing.
 use mathlib.Core.Path.{ap, ap₂}
 use mathlib.Core.Bool.{Bool, not, ◌&&◌}
-use borrow.Author.Rules.{rules}
 use Rattle.stretches.specs.Stretches.{two_stretches}
 use Rattle.stretches.proofs.two_stretches.Goals as goal
 

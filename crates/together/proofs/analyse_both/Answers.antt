@@ -1,6 +1,5 @@
 -- analyse_both meets its contract: where the first file is accepted the second is read, another's refusal is handed on. Assumes nothing.
 use mathlib.Core.Path.{sym, ◌∙◌}
-use borrow.Author.Rules.{rules}
 use Rattle.recording.proofs.Files.{refused_is}
 use Rattle.together.proofs.Answers.{refused_first}
 use Rattle.together.proofs.analyse_both.Goals as goal

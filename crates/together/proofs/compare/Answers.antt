@@ -1,8 +1,6 @@
 -- compare meets its contract: each of its answers is one of the cases. Assumes nothing.
--- the records and the level bytes are cut out of both files
 use mathlib.Core.Path.{◌≡◌, sym, ap₂, subst₂, ◌∙◌}
 use native.Mathlib.Omega.{arith}
-use borrow.Author.Rules.{rules}
 use Rattle.model.specs.declared.Check.{Check}
 use Rattle.model.specs.Recording.{Recording}
 use Rattle.model.specs.File.{recording_by, recording_of}

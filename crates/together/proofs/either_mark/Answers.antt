@@ -1,7 +1,6 @@
 -- either_mark meets its contract. Assumes nothing.
 use mathlib.Core.Path.{ap, ◌∙◌}
 use Prim.Native.Nat.{ℕ, max}
-use borrow.Author.Rules.{rules}
 use Rattle.together.proofs.either_mark.Goals as goal
 
 pub returns : goal.returns

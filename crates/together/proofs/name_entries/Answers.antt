@@ -1,9 +1,9 @@
 -- name_entries meets its contract: those from i on are named, those below i are as they were. The measure is i. Assumes nothing.
 use mathlib.Core.Path.{◌≡◌, sym, subst}
-use Prim.Native.Nat.{◌-◌, ◌≤◌, ◌<◌}
+use Prim.Native.Nat.{◌-◌, ◌<◌}
 use native.Mathlib.Omega.{arith}
-use Rattle.together.specs.Naming.{named_by, OfFirst}
-use Rattle.together.proofs.Naming.{five_numbers, Turned, none_turned, same_entry, turn, all_turned}
+use Rattle.together.specs.Naming.{OfFirst}
+use Rattle.together.proofs.Naming.{five_numbers, none_turned, same_entry, turn, all_turned}
 use Rattle.together.proofs.name_entries.Goals as goal
 
 pub loop-i-init : goal.loop-i-init

@@ -1,9 +1,7 @@
 -- name_entries meets its contract: those from i on are named, those below i are as they were. The measure is i. Assumes nothing.
-use mathlib.Core.Path.{◌≡◌, sym, subst}
-use Prim.Native.Nat.{◌-◌, ◌≤◌, ◌<◌}
-use native.Mathlib.Omega.{arith}
-use Rattle.together.specs.Naming.{named_by, OfFirst}
-use Rattle.together.proofs.Naming.{five_numbers, Turned, none_turned, same_entry, turn, all_turned}
+use Prim.Native.Nat.{◌≤◌}
+use Rattle.together.specs.Naming.{named_by}
+use Rattle.together.proofs.Naming.{Turned}
 use Rattle.together.proofs.name_entries.Given as goal
 
 abbrev pub invariant-loop-i : goal.invariant-loop-i

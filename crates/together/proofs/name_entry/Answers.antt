@@ -1,6 +1,5 @@
 -- name_entry meets its contract. Assumes nothing.
 use mathlib.Core.Path.{◌∙◌}
-use borrow.Author.Rules.{rules}
 use Rattle.together.proofs.Naming.{stored_named}
 use Rattle.together.proofs.name_entry.Goals as goal
 

@@ -1,6 +1,5 @@
 -- read_second meets its contract: an accepted file is compared, another's refusal is handed on. Assumes nothing.
 use mathlib.Core.Path.{sym, ◌∙◌}
-use borrow.Author.Rules.{rules}
 use Rattle.recording.proofs.Files.{refused_is}
 use Rattle.work.proofs.Accepted.{passed}
 use Rattle.together.proofs.Answers.{refused_second}

@@ -1,7 +1,6 @@
 -- settle meets its contract: the budget is N × N + 1. Assumes nothing.
 use mathlib.Core.Path.{ap, ◌∙◌}
 use Prim.Native.Nat.{ℕ}
-use borrow.Author.Rules.{rules}
 use Rattle.model.specs.File.{recording_by}
 use Rattle.model.specs.Analysing.{filled}
 use Rattle.work.proofs.Accepted.{ready_budget}

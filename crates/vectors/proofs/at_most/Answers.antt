@@ -1,12 +1,10 @@
 -- at_most meets its contract: n counts the numbers looked at.
 -- Assumes nothing.
-use mathlib.Core.Path.{◌≡◌, ap}
-use mathlib.Core.Logic.{⊎_elim}
-use Prim.Native.Nat.{◌-◌, ◌≤◌}
+use mathlib.Core.Path.{ap}
 use native.Mathlib.Omega.{arith}
 use lib.Dec.{leb}
-use lib.ListN.{length, take, get_or}
-use Rattle.model.specs.Numbers.{bit, count}
+use lib.ListN.{get_or}
+use Rattle.model.specs.Numbers.{bit}
 use Rattle.model.proofs.Tests.{le-leb, lt-leb}
 use Rattle.vectors.proofs.Stores.{count_start, count_next, count_whole}
 use Rattle.vectors.proofs.at_most.Goals as goal

@@ -1,14 +1,10 @@
 -- at_most meets its contract: n counts the numbers looked at.
 -- Assumes nothing.
-use mathlib.Core.Path.{◌≡◌, ap}
-use mathlib.Core.Logic.{⊎_elim}
+use mathlib.Core.Path.{◌≡◌}
 use Prim.Native.Nat.{◌-◌, ◌≤◌}
-use native.Mathlib.Omega.{arith}
 use lib.Dec.{leb}
-use lib.ListN.{length, take, get_or}
-use Rattle.model.specs.Numbers.{bit, count}
-use Rattle.model.proofs.Tests.{le-leb, lt-leb}
-use Rattle.vectors.proofs.Stores.{count_start, count_next, count_whole}
+use lib.ListN.{length, take}
+use Rattle.model.specs.Numbers.{count}
 use Rattle.vectors.proofs.at_most.Given as goal
 
 abbrev pub invariant-loop-i : goal.invariant-loop-i

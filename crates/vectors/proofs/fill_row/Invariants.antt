@@ -1,15 +1,10 @@
 -- fill_row meets its contract: to write what is left over what is there gives the whole row.
 -- Assumes nothing.
-use mathlib.Core.Path.{◌≡◌, refl, sym, ◌∙◌}
-use mathlib.Core.Logic.{⊎_elim}
-use Prim.Native.Nat.{◌+◌, ◌-◌, ◌≤◌, ◌<◌}
-use native.Mathlib.Nat.{add-zero}
-use native.Mathlib.Omega.{arith}
-use lib.ListN.{length, get_or, drop, length-set}
+use mathlib.Core.Path.{◌≡◌}
+use Prim.Native.Nat.{◌+◌, ◌-◌, ◌≤◌}
+use lib.ListN.{length, drop}
 use lib.Seq.{sets}
 use Rattle.vectors.specs.Rows.{own_row}
-use Rattle.vectors.proofs.Chunks.{own_length, own_same, own_other}
-use Rattle.vectors.proofs.Stores.{sets_next, sets_all}
 use Rattle.vectors.proofs.fill_row.Given as goal
 
 abbrev pub invariant-loop-t : goal.invariant-loop-t

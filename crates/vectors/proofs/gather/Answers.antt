@@ -1,10 +1,8 @@
 -- gather meets its contract: to write the numbers that are left over what is there gives them all.
 -- Assumes nothing.
-use mathlib.Core.Path.{◌≡◌, refl, sym, ◌∙◌}
-use Prim.Native.Nat.{◌-◌, ◌≤◌}
+use mathlib.Core.Path.{refl, sym, ◌∙◌}
 use native.Mathlib.Omega.{arith}
-use lib.ListN.{length, drop, length-set}
-use lib.Seq.{sets}
+use lib.ListN.{length, length-set}
 use Rattle.vectors.specs.Rows.{column}
 use Rattle.vectors.proofs.Chunks.{column_length, column_at}
 use Rattle.model.proofs.Stores.{sets_front}

@@ -1,14 +1,10 @@
 -- gather meets its contract: to write the numbers that are left over what is there gives them all.
 -- Assumes nothing.
-use mathlib.Core.Path.{◌≡◌, refl, sym, ◌∙◌}
+use mathlib.Core.Path.{◌≡◌}
 use Prim.Native.Nat.{◌-◌, ◌≤◌}
-use native.Mathlib.Omega.{arith}
-use lib.ListN.{length, drop, length-set}
+use lib.ListN.{length, drop}
 use lib.Seq.{sets}
 use Rattle.vectors.specs.Rows.{column}
-use Rattle.vectors.proofs.Chunks.{column_length, column_at}
-use Rattle.model.proofs.Stores.{sets_front}
-use Rattle.vectors.proofs.Stores.{sets_next, sets_all}
 use Rattle.vectors.proofs.gather.Given as goal
 
 abbrev pub invariant-loop-i : goal.invariant-loop-i

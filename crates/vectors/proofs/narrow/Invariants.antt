@@ -1,9 +1,7 @@
 -- narrow meets its contract: the k-th least stays between lo and hi.
 -- Assumes nothing.
-use Prim.Native.Nat.{◌+◌, ◌-◌, ◌/◌, ◌≤◌}
-use native.Mathlib.Omega.{arith}
+use Prim.Native.Nat.{◌-◌, ◌≤◌}
 use Rattle.model.specs.Numbers.{kth_least}
-use Rattle.model.proofs.Least.{kth_le, kth_gt}
 use Rattle.vectors.proofs.narrow.Given as goal
 
 abbrev pub invariant-loop-lo : goal.invariant-loop-lo

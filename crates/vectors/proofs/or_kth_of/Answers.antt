@@ -1,13 +1,11 @@
 -- or_kth_of meets its contract: the part lent on is the column.
 -- Assumes nothing.
--- what gather left, as far as it is lent on
 use mathlib.Core.Path.{◌≡◌, sym, ap, ◌∙◌}
 use mathlib.Core.List.{List}
 use Prim.Native.Nat.{ℕ, max}
 use native.Mathlib.Omega.{arith}
 use lib.ListN.{length, take}
 use lib.Seq.{take_at}
-use borrow.Author.Rules.{rules}
 use Rattle.model.specs.Numbers.{kth_least}
 use Rattle.vectors.specs.Rows.{column}
 use Rattle.vectors.proofs.Chunks.{column_length}

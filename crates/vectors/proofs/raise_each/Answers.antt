@@ -1,11 +1,11 @@
 -- raise_each meets its contract: after t turns the first t numbers are raised, and the column that turn t reads is as it was.
 -- Assumes nothing.
 use mathlib.Core.Path.{◌≡◌, refl, sym, ap, ◌∙◌}
-use Prim.Native.Nat.{ℕ, ◌+◌, ◌-◌, ◌*◌, ◌≤◌, ◌<◌, max}
+use Prim.Native.Nat.{ℕ, ◌+◌, ◌*◌, ◌<◌, max}
 use native.Mathlib.Omega.{arith}
-use lib.ListN.{length, get_or, length-replicate}
+use lib.ListN.{get_or, length-replicate}
 use Rattle.model.specs.Numbers.{kth_least}
-use Rattle.vectors.specs.Rows.{raised_at, column, Rose}
+use Rattle.vectors.specs.Rows.{column}
 use Rattle.vectors.proofs.Raised.{raised_start, raise_turn, column_read, columns_read}
 use Rattle.vectors.proofs.Rising.{rose_none, rose_then}
 use Rattle.vectors.proofs.raise_each.Goals as goal

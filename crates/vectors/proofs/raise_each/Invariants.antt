@@ -1,13 +1,10 @@
 -- raise_each meets its contract: after t turns the first t numbers are raised, and the column that turn t reads is as it was.
 -- Assumes nothing.
-use mathlib.Core.Path.{◌≡◌, refl, sym, ap, ◌∙◌}
-use Prim.Native.Nat.{ℕ, ◌+◌, ◌-◌, ◌*◌, ◌≤◌, ◌<◌, max}
-use native.Mathlib.Omega.{arith}
-use lib.ListN.{length, get_or, length-replicate}
+use mathlib.Core.Path.{◌≡◌}
+use Prim.Native.Nat.{◌-◌, ◌≤◌}
+use lib.ListN.{length}
 use Rattle.model.specs.Numbers.{kth_least}
 use Rattle.vectors.specs.Rows.{raised_at, column, Rose}
-use Rattle.vectors.proofs.Raised.{raised_start, raise_turn, column_read, columns_read}
-use Rattle.vectors.proofs.Rising.{rose_none, rose_then}
 use Rattle.vectors.proofs.raise_each.Given as goal
 
 abbrev pub invariant-loop-t : goal.invariant-loop-t

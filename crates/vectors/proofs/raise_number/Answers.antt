@@ -1,6 +1,5 @@
 -- raise_number meets its contract: where y is the larger it rose, else what is stored was there.
 -- Assumes nothing.
--- a number is raised to y
 use mathlib.Core.Path.{◌≡◌, ap, sym, subst}
 use mathlib.Core.List.{List}
 use Prim.Native.Nat.{ℕ, max, ◌<◌}
@@ -9,7 +8,6 @@ use native.Mathlib.Omega.{arith}
 use lib.Dec.{ltb}
 use lib.ListN.{length, get_or, set}
 use lib.Seq.{set-get_or}
-use borrow.Author.Rules.{rules}
 use Rattle.model.proofs.Tests.{cases, ltb-true, ltb-false}
 use Rattle.vectors.specs.Rows.{Rose}
 use Rattle.vectors.proofs.Rising.{rose_none, rose_one}

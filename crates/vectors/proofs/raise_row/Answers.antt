@@ -1,10 +1,9 @@
 -- raise_row meets its contract: after t turns the first t numbers are raised, and those that turn t reads are as they were.
 -- Assumes nothing.
 use mathlib.Core.Path.{◌≡◌, refl, ap, ◌∙◌}
-use Prim.Native.Nat.{ℕ, ◌+◌, ◌-◌, ◌*◌, ◌≤◌, ◌<◌, max}
+use Prim.Native.Nat.{ℕ, ◌+◌, ◌*◌, ◌<◌, max}
 use native.Mathlib.Omega.{arith}
-use lib.ListN.{length, get_or}
-use Rattle.vectors.specs.Rows.{raised_at, Rose}
+use lib.ListN.{get_or}
 use Rattle.vectors.proofs.Raised.{raised_start, raise_turn, column_read}
 use Rattle.vectors.proofs.Rising.{rose_none, rose_then}
 use Rattle.vectors.proofs.raise_row.Goals as goal

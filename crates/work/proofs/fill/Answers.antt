@@ -1,9 +1,7 @@
 -- fill meets its contract: the first part is the safe vectors, the rest the recorded ones and what was behind them. Assumes nothing.
--- what both runs are lent
 use mathlib.Core.Path.{◌≡◌, sym, ◌∙◌}
 use Prim.Native.Nat.{◌*◌, ◌≤◌}
 use native.Mathlib.Omega.{arith}
-use borrow.Author.Rules.{rules}
 use lib.ListN.{length}
 use Rattle.model.specs.File.{recording_by}
 use Rattle.passes.specs.Lent.{Prepared}

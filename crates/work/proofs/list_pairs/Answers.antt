@@ -1,7 +1,6 @@
 -- list_pairs meets its contract: the two parts that are lent are the vectors. Assumes nothing.
 use mathlib.Core.Path.{ap₂, subst}
 use mathlib.Core.List.{List, []}
-use borrow.Author.Rules.{rules}
 use Rattle.model.specs.File.{recording_by}
 use Rattle.model.specs.Pairs.{Entry, entries}
 use Rattle.pairs.specs.Lent.{WrittenList}

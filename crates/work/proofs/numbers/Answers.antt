@@ -1,6 +1,5 @@
 -- numbers meets its contract. Assumes nothing.
 use native.Mathlib.Omega.{arith}
-use borrow.Author.Rules.{rules}
 use Rattle.work.proofs.Parts.{numbers_by}
 use Rattle.work.proofs.numbers.Goals as goal
 

@@ -1,7 +1,6 @@
 -- recorded_part meets its contract: the recorded vectors are the second part. Assumes nothing.
 use mathlib.Core.Path.{◌∙◌}
 use native.Mathlib.Omega.{arith}
-use borrow.Author.Rules.{rules}
 use Rattle.work.proofs.Parts.{second_part, second_vectors}
 use Rattle.work.proofs.recorded_part.Goals as goal
 

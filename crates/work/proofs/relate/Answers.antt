@@ -1,7 +1,6 @@
 -- relate meets its contract: the two parts that are lent are the vectors. Assumes nothing.
 use mathlib.Core.Path.{ap₂, ◌∙◌}
 use mathlib.Core.List.{[]}
-use borrow.Author.Rules.{rules}
 use Rattle.model.specs.File.{recording_by}
 use Rattle.model.specs.Vectors.{Vectors}
 use Rattle.model.specs.Question.{relation_by}

@@ -1,6 +1,4 @@
 -- work_fits meets its contract. Assumes nothing.
-use native.Mathlib.Omega.{arith}
-use borrow.Author.Rules.{rules}
 use Rattle.work.proofs.work_fits.Goals as goal
 
 pub returns : goal.returns
