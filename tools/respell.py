@@ -96,14 +96,16 @@ def table():
     sources = collections.Counter(new.values())
     for name in list(new):
         out = new[name]
-        if out in words and out not in new or sources[out] > 1 and "-" in name:
+        if names[name] != "field" and (out in words and out not in new or sources[out] > 1 and "-" in name):
             new[name] = out + "_lem"
-    return new, words
+    return new, words, names
 
 
 def main():
-    new, words = table()
-    bad = [n for n, c in collections.Counter(new.values()).items() if c > 1] + [n for n in new.values() if n in words and n not in new]
+    new, words, names = table()
+    # a field may have the name of a definition: it is only named behind a dot or in its own record
+    spelled = [out for name, out in new.items() if names[name] != "field"]
+    bad = [n for n, c in collections.Counter(spelled).items() if c > 1] + [n for n in spelled if n in words and n not in new]
     if "--list" in sys.argv:
         for a, b in new.items():
             print(f"{a}\t{b}")
@@ -115,7 +117,7 @@ def main():
     quiet = re.compile(r"\"(?:[^\"\\\n]|\\.)*\"|--[^\n]*")
     span = re.compile(r"`[^`\n]*`")
     clause = re.compile(r"ghost use [^;]*;|(?:requires|ensures)\s*\w*\s*\{(?:[^{}]|\{[^{}]*\})*\}")
-    fields = {n for n, kind in declared().items() if kind == "field"}
+    fields = {n for n, kind in names.items() if kind == "field"}
 
     def turn(text, walk=False):
         def one(m):

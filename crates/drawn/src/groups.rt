@@ -195,7 +195,7 @@ fn try_file(t: Tally, log: &mut Log, seed: &mut u32, s: Shape, g: Group) -> Tall
         }
         PAIRS | DAMAGED_PAIRS => try_reversed(t, log, seed, file, g),
         STRETCHES | DAMAGED_STRETCHES => {
-            stretches::try_stretches(try_size(t, log, file, g), log, seed, file, g.pairs)
+            routines::try_stretches(try_size(t, log, file, g), log, seed, file, g.pairs)
         }
         _ => try_made(t, log, seed, file, s, g.all),
     }

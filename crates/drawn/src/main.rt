@@ -6,7 +6,7 @@
 mod groups;
 mod jobs;
 mod looks;
-mod stretches;
+mod routines;
 
 use rows::bytes::{byte, part_of};
 use rows::input::read_full;

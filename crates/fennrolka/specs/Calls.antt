@@ -32,7 +32,7 @@ pub record Calls : Type 0 where
   pub read : Reads mixed 0 (3 ∷ 1 ∷ 2 ∷ 5 ∷ 4 ∷ 6 ∷ 7 ∷ 0 ∷ [])
   pub read_refused : Reads faulty 5 (0 ∷ 0 ∷ 0 ∷ 0 ∷ 0 ∷ 0 ∷ 0 ∷ 1 ∷ [])
   pub event : Finds mixed 1 0 (4 ∷ 6 ∷ 3 ∷ 0 ∷ [])
-  pub no_event_lem : Finds mixed 2 11 (0 ∷ 0 ∷ 0 ∷ 0 ∷ [])
+  pub no_event : Finds mixed 2 11 (0 ∷ 0 ∷ 0 ∷ 0 ∷ [])
   pub event_refused : Finds faulty 0 5 (0 ∷ 0 ∷ 0 ∷ 1 ∷ [])
   pub settled : Analyses 5 24 3 0 (2 ∷ 1 ∷ 1 ∷ 0 ∷ [])
   pub not_settled : Analyses 0 24 9 0 (0 ∷ 0 ∷ 3 ∷ 0 ∷ [])

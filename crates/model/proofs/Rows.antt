@@ -301,7 +301,7 @@ printed = record {
   no_events = with_room (file 1 0 0 []) refl;
   is_open = with_room B refl;
   two_cells = with_room (file 2 0 2 (of 6 0 1 ++ of 6 1 1 ++ W 0 ++ W 1)) refl;
-  at_record_lem = refl;
+  at_record = refl;
   list_full = refl;
   budget = refl;
   unsettled = refl;
@@ -327,7 +327,7 @@ unfolding rows
 beyond = record {
   no_trailer = refl;
   no_record = refl;
-  no_event_lem = refl;
+  no_event = refl;
   kind_0 = refl;
   kind_7 = refl;
   kind_11 = refl;

@@ -59,7 +59,7 @@ pub record Stretched : Type 0 where
   -- 17: a task that is unknown or has no events, first 0, first above last, last above the task's events, of either
   pub task : NoStretches G (from 2 1 1) (from 0 1 1)
   pub task_other : NoStretches G (from 0 1 1) (from 2 1 1)
-  pub no_event_lem : NoStretches inner (from 0 1 1) (from 2 1 1)
+  pub no_event : NoStretches inner (from 0 1 1) (from 2 1 1)
   pub first_0 : NoStretches G (from 0 0 1) (from 1 1 1)
   pub first_0_other : NoStretches G (from 0 1 1) (from 1 0 1)
   pub position_0 : NoStretches G (from 0 0 0) (from 1 1 1)

@@ -19,7 +19,7 @@ ones = record { tasks = 1; semaphores = 1; cells = 1; edition = 1 }
 pub record Beyond : Type 0 where
   pub no_trailer : trailer_of [] ≡ record { start = 0; records = 0; counts = record { tasks = 0; semaphores = 0; cells = 0; edition = 0 } }
   pub no_record : event_at [] 0 ≡ record { task = 0; kind = 0; object = 0 }
-  pub no_event_lem : event (recording_of A) 4 ≡ record { task = 0; kind = 0; object = 0 }
+  pub no_event : event (recording_of A) 4 ≡ record { task = 0; kind = 0; object = 0 }
   pub kind_0 : named ones (record { task = 0; kind = 0; object = 0 }) ≡ false
   pub kind_7 : named ones (record { task = 0; kind = 7; object = 0 }) ≡ false
   pub kind_11 : named ones (record { task = 0; kind = 11; object = 0 }) ≡ false

@@ -28,7 +28,7 @@ pub record InTaskOrder : Type 0 where
   pub open_last : Lists (file 2 1 1 (W 1 ++ S 1 ++ P 0 ++ R 0)) 0 (3 ∷ 0 ∷ 0 ∷ [])
   -- by cell, lower task, its position, higher task, its position
   pub by_cell : Lists (file 2 0 3 (of 6 0 2 ++ of 6 1 2 ++ W 1 ++ W 0)) 1 (3 ∷ 2 ∷ 1 ∷ 0 ∷ 1 ∷ 1 ∷ [])
-  pub by_task_lem : Lists (file 3 0 1 (W 2 ++ W 1 ++ W 0)) 1 (2 ∷ 1 ∷ 1 ∷ 2 ∷ 0 ∷ 1 ∷ 1 ∷ 0 ∷ 1 ∷ [])
+  pub by_task : Lists (file 3 0 1 (W 2 ++ W 1 ++ W 0)) 1 (2 ∷ 1 ∷ 1 ∷ 2 ∷ 0 ∷ 1 ∷ 1 ∷ 0 ∷ 1 ∷ [])
   pub by_position : Lists (file 2 0 1 (W 1 ++ W 0 ++ W 1 ++ W 0)) 1 (1 ∷ 0 ∷ 1 ∷ 1 ∷ 2 ∷ 1 ∷ 3 ∷ 0 ∷ 1 ∷ 3 ∷ 2 ∷ 1 ∷ [])
   pub by_all : Lists mixed 1
       (2 ∷ 1 ∷ 1 ∷ 2 ∷ 4 ∷ 1 ∷ 2 ∷ 0 ∷ 1 ∷ 2 ∷ 3 ∷ 1 ∷ 1 ∷ 0 ∷ 1 ∷ 1 ∷ 3 ∷ 1 ∷ 4 ∷ 0 ∷ 1 ∷ 4 ∷ 3 ∷ 1 ∷ [])

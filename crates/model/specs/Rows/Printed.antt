@@ -24,7 +24,7 @@ pub record Printed : Type 0 where
   pub no_events : Prints (file 1 0 0 []) "events 0 tasks 1 passes 1 settled yes pairs 0\n"
   pub is_open : Prints B "events 5 tasks 3 passes 1 settled yes pairs 1\ncell 0 0 4 open\n"
   pub two_cells : Prints (file 2 0 2 (of 6 0 1 ++ of 6 1 1 ++ W 0 ++ W 1)) "events 4 tasks 2 passes 1 settled yes pairs 2\ncell 0 2 3 sure\ncell 1 0 1 sure\n"
-  pub at_record_lem : Prints (file 1 1 1 (W 0 ++ W 0 ++ P 0)) "refused 8 2\n"
+  pub at_record : Prints (file 1 1 1 (W 0 ++ W 0 ++ P 0)) "refused 8 2\n"
   pub list_full : report_of G (lent 24) (lent 2) ≡ bytes "refused 10 0\n"
   pub budget : budget_of (recording_of G) ≡ 37
   pub unsettled : result_text (recording_of A) 0 ≡ bytes "events 4 tasks 2 passes 0 settled no pairs 1\ncell 0 0 3 open\n"
