@@ -1,6 +1,6 @@
 // Recordings from fixed seeds: small and large, valid and damaged. One driver draws the recordings of
 // every group, and its kind says what is tried of each.
-use crate::{jobs, looks, stretches};
+use crate::{jobs, looks, routines};
 use calls::call::{REVERSED, WAYS, call_of, needed};
 use calls::lists::try_one;
 use calls::printed::try_printing;
