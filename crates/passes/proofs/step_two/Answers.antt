@@ -14,57 +14,73 @@ use Rattle.passes.specs.Lent.{vectors_in}
 use Rattle.passes.proofs.Waits.{wait_raised, needed_wait, needed_flag, other_kept}
 use Rattle.passes.proofs.Walks.{has_slots}
 use Rattle.passes.proofs.step_two.Goals as goal
+use Rattle.passes.proofs.step_two.Goals.{After-event_at-w}
+
+-- the event e is at hand
+module _ (t : After-event_at-w) where
+  abbrev E : Recording
+  E = recording_by t.args.records.now t.args.counts t.args.levels.now
+
+  abbrev X : Vectors
+  X = vectors_in t.args.records.now t.args.counts t.args.v.now
+
+  -- a wait is on a semaphore below 64, a flag wait on a flag below 64
+  kind : t.event_at-w.result.kind ≡ (event_in E.events t.args.e).kind
+  kind = ap (λ (v : Event). v.kind) t.event_at-w.ensures
+
+  same : t.event_at-w.result.object ≡ (event_in E.events t.args.e).object
+  same = ap (λ (v : Event). v.object) t.event_at-w.ensures
+
+  on_semaphore : t.event_at-w.result.kind ≡ wait → t.event_at-w.result.object < 64
+  on_semaphore q = omega (arith, same, t.requires.0.records.waits t.args.e t.requires.2 (sym kind ∙ q))
+
+  on_flag : t.event_at-w.result.kind ≡ flag_wait → t.event_at-w.result.object < 64
+  on_flag q = omega (arith, same, t.requires.0.records.flag_waits t.args.e t.requires.2 (sym kind ∙ q))
 
 pub event_at-w-requires : goal.event_at-w-requires
-event_at-w-requires c =
-    omega (arith, c.requires.0.records.whole)
+event_at-w-requires c = omega (arith, c.requires.0.records.whole)
 
 pub needed-k-requires : goal.needed-k-requires
 needed-k-requires c =
-    let E : Recording = recording_by c.args.records.now c.args.counts c.args.levels.now in
-    let same : c.event_at-w.result.object ≡ (event_in E.events c.args.e).object = ap (λ (v : Event). v.object) c.event_at-w.ensures in
-    let on-semaphore : c.event_at-w.result.kind ≡ wait → c.event_at-w.result.object < 64 = λ q. omega (arith, same, c.requires.0.records.waits c.args.e c.requires.2 (sym (ap (λ (v : Event). v.kind) c.event_at-w.ensures) ∙ q)) in
     let p = c.requires in
-    record { placed = (p.0, p.1, p.2); gathered = (p.3, on-semaphore c.if-w-eq-WAIT.true) }
+    record { placed = (p.0, p.1, p.2); gathered = (p.3, on_semaphore (goal.at.needed-k-requires c).After-event_at-w c.if-w-eq-WAIT.true) }
 
 pub raise_wait-requires : goal.raise_wait-requires
 raise_wait-requires c =
-    let E : Recording = recording_by c.args.records.now c.args.counts c.args.levels.now in
-    let same : c.event_at-w.result.object ≡ (event_in E.events c.args.e).object = ap (λ (v : Event). v.object) c.event_at-w.ensures in
-    let on-semaphore : c.event_at-w.result.kind ≡ wait → c.event_at-w.result.object < 64 = λ q. omega (arith, same, c.requires.0.records.waits c.args.e c.requires.2 (sym (ap (λ (v : Event). v.kind) c.event_at-w.ensures) ∙ q)) in
     let p = c.requires in
-    let x = on-semaphore c.if-w-eq-WAIT.true in
+    let x = on_semaphore (goal.at.raise_wait-requires c).After-event_at-w c.if-w-eq-WAIT.true in
     record { placed = (p.0, p.1, p.2); gathered = (p.3, omega (arith, has_slots _ x)) }
 
 pub returns-then-w-eq-WAIT : goal.returns-then-w-eq-WAIT
 returns-then-w-eq-WAIT c =
-    let E : Recording = recording_by c.args.records.now c.args.counts c.args.levels.now in
-    let X : Vectors = vectors_in c.args.records.now c.args.counts c.args.v.now in
+    let t = (goal.at.returns-then-w-eq-WAIT c).After-event_at-w in
     let f = c.raise_wait in
-    record { becomes = wait_raised E X _ _ c.event_at-w.ensures _ _ _ f.ensures.becomes (ap serving c.if-w-eq-WAIT.true) (c.needed-k.ensures ∙ needed_wait E X _ _ c.event_at-w.ensures c.if-w-eq-WAIT.true); rose = f.ensures.rose }
+    record {
+      becomes = wait_raised (E t) (X t) _ _ c.event_at-w.ensures _ _ _ f.ensures.becomes (ap serving c.if-w-eq-WAIT.true) (c.needed-k.ensures ∙ needed_wait (E t) (X t) _ _ c.event_at-w.ensures c.if-w-eq-WAIT.true);
+      rose = f.ensures.rose;
+    }
 
 pub raise_wait-requires-then-w-eq-FLAG_WAIT : goal.raise_wait-requires-then-w-eq-FLAG_WAIT
 raise_wait-requires-then-w-eq-FLAG_WAIT c =
-    let E : Recording = recording_by c.args.records.now c.args.counts c.args.levels.now in
-    let same : c.event_at-w.result.object ≡ (event_in E.events c.args.e).object = ap (λ (v : Event). v.object) c.event_at-w.ensures in
-    let on-flag : c.event_at-w.result.kind ≡ flag_wait → c.event_at-w.result.object < 64 = λ q. omega (arith, same, c.requires.0.records.flag_waits c.args.e c.requires.2 (sym (ap (λ (v : Event). v.kind) c.event_at-w.ensures) ∙ q)) in
     let p = c.requires in
-    let g = on-flag c.if-w-eq-FLAG_WAIT.true in
+    let g = on_flag (goal.at.raise_wait-requires-then-w-eq-FLAG_WAIT c).After-event_at-w c.if-w-eq-FLAG_WAIT.true in
     record { placed = (p.0, p.1, p.2); gathered = (p.3, omega (arith, has_slots _ g)) }
 
 pub returns-then-w-eq-FLAG_WAIT : goal.returns-then-w-eq-FLAG_WAIT
 returns-then-w-eq-FLAG_WAIT c =
-    let E : Recording = recording_by c.args.records.now c.args.counts c.args.levels.now in
-    let X : Vectors = vectors_in c.args.records.now c.args.counts c.args.v.now in
+    let t = (goal.at.returns-then-w-eq-FLAG_WAIT c).After-event_at-w in
     let f = c.raise_wait-then-w-eq-FLAG_WAIT in
-    record { becomes = wait_raised E X _ _ c.event_at-w.ensures _ _ _ f.ensures.becomes (ap serving c.if-w-eq-FLAG_WAIT.true) (c.post_of-k.ensures ∙ needed_flag E X _ _ c.event_at-w.ensures c.if-w-eq-FLAG_WAIT.true); rose = f.ensures.rose }
+    record {
+      becomes = wait_raised (E t) (X t) _ _ c.event_at-w.ensures _ _ _ f.ensures.becomes (ap serving c.if-w-eq-FLAG_WAIT.true) (c.post_of-k.ensures ∙ needed_flag (E t) (X t) _ _ c.event_at-w.ensures c.if-w-eq-FLAG_WAIT.true);
+      rose = f.ensures.rose;
+    }
 
 pub returns : goal.returns
 returns c =
-    let E : Recording = recording_by c.args.records.now c.args.counts c.args.levels.now in
-    let X : Vectors = vectors_in c.args.records.now c.args.counts c.args.v.now in
-    let a = c.args in record {
-      becomes = other_kept E X a.e _ c.event_at-w.ensures (chunks_shaped (size E) a.counts.tasks a.v.now c.requires.1) c.requires.2
+    let t = (goal.at.returns c).After-event_at-w in
+    let a = c.args in
+    record {
+      becomes = other_kept (E t) (X t) a.e _ c.event_at-w.ensures (chunks_shaped (size (E t)) a.counts.tasks a.v.now c.requires.1) c.requires.2
           c.if-w-eq-WAIT.false c.if-w-eq-FLAG_WAIT.false;
       rose = rose_none a.v.now;
     }

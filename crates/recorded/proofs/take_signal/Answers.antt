@@ -19,166 +19,129 @@ use Rattle.recorded.specs.Matching.{signal_at, wait_at, AtHand, Matching}
 use Rattle.recorded.proofs.Searches.{matched_early, matched_later, matched_other}
 use Rattle.recorded.proofs.Matching.{next_other, next_early, next_later, taken_next, none_next, hand_at, hand_none}
 use Rattle.recorded.proofs.take_signal.Goals as goal
+use Rattle.recorded.proofs.take_signal.Goals.{Else-w-ne-WAIT}
 
-no-wait : (x : ℕ) (v : Event) → (v.kind ≡ wait → ⊥) → is_wait x v ≡ false
-no-wait x v d = rw (ne_eqb v.kind wait d)
+no_wait : (x : ℕ) (v : Event) → (v.kind ≡ wait → ⊥) → is_wait x v ≡ false
+no_wait x v d = rw (ne_eqb v.kind wait d)
 
 pub returns-then-w-ne-WAIT : goal.returns-then-w-ne-WAIT
 returns-then-w-ne-WAIT c =
-    let v : Event = c.event_at-w.result in
-    let w = c.event_at-w.ensures in record { value = (matched_other (recording_by c.args.records.now c.args.counts c.args.levels.now) c.args.e (λ q. c.if-w-ne-WAIT.true (ap (λ (v : Event). v.kind) w ∙ q)), tt); cases = next_other _ _ _ _ _ c.requires.2 (λ x. sym (ap (is_wait x) w) ∙ no-wait x c.event_at-w.result c.if-w-ne-WAIT.true) }
+    let w = c.event_at-w.ensures in record {
+      value = (matched_other (recording_by c.args.records.now c.args.counts c.args.levels.now) c.args.e (λ q. c.if-w-ne-WAIT.true (ap (λ (v : Event). v.kind) w ∙ q)), tt);
+      cases = next_other _ _ _ _ _ c.requires.2 (λ x. sym (ap (is_wait x) w) ∙ no_wait x c.event_at-w.result c.if-w-ne-WAIT.true);
+    }
+
+-- a wait on the semaphore that its event names
+module _ (c : Else-w-ne-WAIT) where
+  abbrev E : Recording
+  E = recording_by c.args.records.now c.args.counts c.args.levels.now
+
+  abbrev v : Event
+  v = c.event_at-w.result
+
+  abbrev object : ℕ
+  object = v.object
+
+  kind : (event E c.args.e).kind ≡ wait
+  kind = sym (ap (λ (w : Event). w.kind) c.event_at-w.ensures) ∙ c.if-w-ne-WAIT.false
+
+  same : object ≡ (event E c.args.e).object
+  same = ap (λ (w : Event). w.object) c.event_at-w.ensures
+
+  small : object < 64
+  small = omega (arith, same, c.requires.0.waits c.args.e c.requires.1 kind)
+
+  waiting : wait_at c.args.records.now object c.args.e ≡ true
+  waiting = sym (ap (is_wait object) c.event_at-w.ensures) ∙ both (eq-eqb v.kind wait c.if-w-ne-WAIT.false) (eq-eqb object object refl)
+
+  -- the start count of semaphore x, and the waits on it before this one
+  abbrev first : ℕ → ℕ
+  first x = start_of E.levels x
+
+  abbrev waits : ℕ → ℕ
+  waits x = tally (wait_at c.args.records.now x) c.args.e
+
+  abbrev unmatched : ℕ
+  unmatched = get_or c.args.unmatched.now object 0
+
+  counted : unmatched ≡ min (first object) (waits object)
+  counted = c.requires.2.counted object small
+
+  -- what is at hand on it with w signals before it
+  abbrev Hand : ℕ → ℕ → Type 0
+  Hand w a = AtHand (signal_at c.args.records.now object) (length (events_of c.args.records.now)) w a
+
+  ready : Hand (waits object - first object) (get_or c.args.hand.now (head object) 0)
+  ready = c.requires.2.heads object small
+
+  early_match : unmatched < first object → Found.Nothing ≡ matched E.levels E.events c.args.e
+  early_match h =
+      let l : waits object < first object = omega (arith, counted) in
+      matched_early E c.args.e kind (subst (λ (x : ℕ). waits x < first x) same l)
+
+  later_match : first object ≤ unmatched → (f : Found) → f ≡ nth (signals_on E.events object) (waits object - first object)
+      → f ≡ matched E.levels E.events c.args.e
+  later_match h f q =
+      let l : first object ≤ waits object = omega (arith, counted) in
+      q ∙ ap (λ (x : ℕ). nth (signals_on E.events x) (waits x - first x)) same ∙ matched_later E c.args.e kind (subst (λ (x : ℕ). first x ≤ waits x) same l)
+
+  -- the state after a later wait, by what is at hand then
+  hand_then : first object ≤ unmatched → (a : ℕ) → Hand (waits object - first object + 1) a
+      → Matching c.args.records.now (levels_by c.args.counts c.args.levels.now) (c.args.e + 1) c.args.unmatched.now (set c.args.hand.now (head object) a)
+  hand_then h a n = next_later _ _ _ _ _ c.requires.2 object small waiting h a n c.requires.0.few
 
 pub bounds-unmatched-x : goal.bounds-unmatched-x
-bounds-unmatched-x c =
-    let E : Recording = recording_by c.args.records.now c.args.counts c.args.levels.now in
-    let kind : (event E c.args.e).kind ≡ wait = sym (ap (λ (w : Event). w.kind) c.event_at-w.ensures) ∙ c.if-w-ne-WAIT.false in
-    let v : Event = c.event_at-w.result in
-    let object : ℕ = v.object in
-    let same : object ≡ (event E c.args.e).object = ap (λ (w : Event). w.object) c.event_at-w.ensures in
-    let small : object < 64 = omega (arith, same, c.requires.0.waits c.args.e c.requires.1 kind) in
-    omega (arith, small)
+bounds-unmatched-x c = omega (arith, small (goal.at.bounds-unmatched-x c).Else-w-ne-WAIT)
 
 pub bounds-unmatched-x-then-unmatched-x : goal.bounds-unmatched-x-then-unmatched-x
-bounds-unmatched-x-then-unmatched-x c =
-    let E : Recording = recording_by c.args.records.now c.args.counts c.args.levels.now in
-    let kind : (event E c.args.e).kind ≡ wait = sym (ap (λ (w : Event). w.kind) c.event_at-w.ensures) ∙ c.if-w-ne-WAIT.false in
-    let v : Event = c.event_at-w.result in
-    let object : ℕ = v.object in
-    let same : object ≡ (event E c.args.e).object = ap (λ (w : Event). w.object) c.event_at-w.ensures in
-    let small : object < 64 = omega (arith, same, c.requires.0.waits c.args.e c.requires.1 kind) in
-    omega (arith, small)
+bounds-unmatched-x-then-unmatched-x c = omega (arith, small (goal.at.bounds-unmatched-x-then-unmatched-x c).Else-w-ne-WAIT)
 
 pub bounds-unmatched-x-then-unmatched-x-2 : goal.bounds-unmatched-x-then-unmatched-x-2
-bounds-unmatched-x-then-unmatched-x-2 c =
-    let E : Recording = recording_by c.args.records.now c.args.counts c.args.levels.now in
-    let kind : (event E c.args.e).kind ≡ wait = sym (ap (λ (w : Event). w.kind) c.event_at-w.ensures) ∙ c.if-w-ne-WAIT.false in
-    let v : Event = c.event_at-w.result in
-    let object : ℕ = v.object in
-    let same : object ≡ (event E c.args.e).object = ap (λ (w : Event). w.object) c.event_at-w.ensures in
-    let small : object < 64 = omega (arith, same, c.requires.0.waits c.args.e c.requires.1 kind) in
-    omega (arith, small)
+bounds-unmatched-x-then-unmatched-x-2 c = omega (arith, small (goal.at.bounds-unmatched-x-then-unmatched-x-2 c).Else-w-ne-WAIT)
 
 pub returns-then-unmatched-x : goal.returns-then-unmatched-x
 returns-then-unmatched-x c =
-    let v : Event = c.event_at-w.result in
-    let object : ℕ = v.object in
-    let E : Recording = recording_by c.args.records.now c.args.counts c.args.levels.now in
-    let kind : (event E c.args.e).kind ≡ wait = sym (ap (λ (w : Event). w.kind) c.event_at-w.ensures) ∙ c.if-w-ne-WAIT.false in
-    let same : object ≡ (event E c.args.e).object = ap (λ (w : Event). w.object) c.event_at-w.ensures in
-    let small : object < 64 = omega (arith, same, c.requires.0.waits c.args.e c.requires.1 kind) in
-    let waiting : wait_at c.args.records.now object c.args.e ≡ true = sym (ap (is_wait object) c.event_at-w.ensures) ∙ both (eq-eqb v.kind wait c.if-w-ne-WAIT.false) (eq-eqb object object refl) in
-    let first : ℕ → ℕ = λ x. start_of E.levels x in
-    let unmatched : ℕ = get_or c.args.unmatched.now object 0 in
-    let waits : ℕ → ℕ = λ x. tally (wait_at c.args.records.now x) c.args.e in
-    let counted : unmatched ≡ min (first object) (waits object) = c.requires.2.counted object small in
-    let early-match : unmatched < first object → Found.Nothing ≡ matched E.levels E.events c.args.e = λ h. let l : waits object < first object = omega (arith, counted) in
-    matched_early E c.args.e kind (subst (λ (x : ℕ). waits x < first x) same l) in
-    let h : unmatched < first object = omega (arith, c.start_of.ensures) in
-    record { value = (early-match h, tt); cases = next_early _ _ _ _ _ c.requires.2 object small waiting h }
+    let d = (goal.at.returns-then-unmatched-x c).Else-w-ne-WAIT in
+    let h : unmatched d < first d (object d) = omega (arith, c.start_of.ensures) in
+    record { value = (early_match d h, tt); cases = next_early _ _ _ _ _ c.requires.2 (object d) (small d) (waiting d) h }
 
 pub bounds-hand-head : goal.bounds-hand-head
-bounds-hand-head c =
-    let E : Recording = recording_by c.args.records.now c.args.counts c.args.levels.now in
-    let kind : (event E c.args.e).kind ≡ wait = sym (ap (λ (w : Event). w.kind) c.event_at-w.ensures) ∙ c.if-w-ne-WAIT.false in
-    let v : Event = c.event_at-w.result in
-    let object : ℕ = v.object in
-    let same : object ≡ (event E c.args.e).object = ap (λ (w : Event). w.object) c.event_at-w.ensures in
-    let small : object < 64 = omega (arith, same, c.requires.0.waits c.args.e c.requires.1 kind) in
-    omega (arith, small)
+bounds-hand-head c = omega (arith, small (goal.at.bounds-hand-head c).Else-w-ne-WAIT)
 
 pub overflow_cast-a : goal.overflow_cast-a
-overflow_cast-a c =
-    let v : Event = c.event_at-w.result in
-    let object : ℕ = v.object in
-    let E : Recording = recording_by c.args.records.now c.args.counts c.args.levels.now in
-    let kind : (event E c.args.e).kind ≡ wait = sym (ap (λ (w : Event). w.kind) c.event_at-w.ensures) ∙ c.if-w-ne-WAIT.false in
-    let same : object ≡ (event E c.args.e).object = ap (λ (w : Event). w.object) c.event_at-w.ensures in
-    let small : object < 64 = omega (arith, same, c.requires.0.waits c.args.e c.requires.1 kind) in
-    let first : ℕ → ℕ = λ x. start_of E.levels x in
-    let waits : ℕ → ℕ = λ x. tally (wait_at c.args.records.now x) c.args.e in
-    let Hand : ℕ → ℕ → Type 0 = λ w a. AtHand (signal_at c.args.records.now object) (length (events_of c.args.records.now)) w a in
-    let ready : Hand (waits object - first object) (get_or c.args.hand.now (head object) 0) = c.requires.2.heads object small in
-    omega (arith, ready.high, c.requires.0.few)
+overflow_cast-a c = omega (arith, (ready (goal.at.overflow_cast-a c).Else-w-ne-WAIT).high, c.requires.0.few)
 
 pub returns-then-records-a : goal.returns-then-records-a
 returns-then-records-a c =
-    let v : Event = c.event_at-w.result in
-    let object : ℕ = v.object in
-    let E : Recording = recording_by c.args.records.now c.args.counts c.args.levels.now in
-    let kind : (event E c.args.e).kind ≡ wait = sym (ap (λ (w : Event). w.kind) c.event_at-w.ensures) ∙ c.if-w-ne-WAIT.false in
-    let same : object ≡ (event E c.args.e).object = ap (λ (w : Event). w.object) c.event_at-w.ensures in
-    let small : object < 64 = omega (arith, same, c.requires.0.waits c.args.e c.requires.1 kind) in
-    let first : ℕ → ℕ = λ x. start_of E.levels x in
-    let waits : ℕ → ℕ = λ x. tally (wait_at c.args.records.now x) c.args.e in
-    let Hand : ℕ → ℕ → Type 0 = λ w a. AtHand (signal_at c.args.records.now object) (length (events_of c.args.records.now)) w a in
-    let ready : Hand (waits object - first object) (get_or c.args.hand.now (head object) 0) = c.requires.2.heads object small in
-    let unmatched : ℕ = get_or c.args.unmatched.now object 0 in
-    let counted : unmatched ≡ min (first object) (waits object) = c.requires.2.counted object small in
-    let later-match : first object ≤ unmatched → (f : Found) → f ≡ nth (signals_on E.events object) (waits object - first object)
-    → f ≡ matched E.levels E.events c.args.e = λ h f q. let l : first object ≤ waits object = omega (arith, counted) in
-    q ∙ ap (λ (x : ℕ). nth (signals_on E.events x) (waits x - first x)) same ∙ matched_later E c.args.e kind (subst (λ (x : ℕ). first x ≤ waits x) same l) in
-    let later : first object ≤ unmatched = omega (arith, c.start_of.ensures) in
-    let waiting : wait_at c.args.records.now object c.args.e ≡ true = sym (ap (is_wait object) c.event_at-w.ensures) ∙ both (eq-eqb v.kind wait c.if-w-ne-WAIT.false) (eq-eqb object object refl) in
-    let hand-then : (a : ℕ) → Hand (waits object - first object + 1) a
-    → Matching c.args.records.now (levels_by c.args.counts c.args.levels.now) (c.args.e + 1) c.args.unmatched.now (set c.args.hand.now (head object) a) = λ a n. next_later _ _ _ _ _ c.requires.2 object small waiting later a n c.requires.0.few in
+    let d = (goal.at.returns-then-records-a c).Else-w-ne-WAIT in
     let r = c.args.records.now in
-    let n : length (events_of r) ≤ get_or c.args.hand.now (head object) 0 = omega (arith, c.requires.0.whole) in record { value = (later-match later _ (hand_none r signal object _ _ ready n), tt); cases = rw (set-get_or c.args.hand.now (head object) 0) at (hand-then _ (none_next (signal_at r object) _ _ _ n ready)) }
+    let later : first d (object d) ≤ unmatched d = omega (arith, c.start_of.ensures) in
+    let n : length (events_of r) ≤ get_or c.args.hand.now (head (object d)) 0 = omega (arith, c.requires.0.whole) in
+    record {
+      value = (later_match d later _ (hand_none r signal (object d) _ _ (ready d) n), tt);
+      cases = rw (set-get_or c.args.hand.now (head (object d)) 0) at (hand_then d later _ (none_next (signal_at r (object d)) _ _ _ n (ready d)));
+    }
 
+-- a signal is at hand
 pub offset_bounds-hand-a : goal.offset_bounds-hand-a
-offset_bounds-hand-a c =
-    let v : Event = c.event_at-w.result in
-    let object : ℕ = v.object in
-    let at-hand : get_or c.args.hand.now (head object) 0 < length (events_of c.args.records.now) = omega (arith, c.requires.0.whole) in
-    omega (arith, at-hand, c.requires.0.few)
+offset_bounds-hand-a c = omega (arith, c.requires.0.whole, c.requires.0.few)
 
 pub bounds-hand-a : goal.bounds-hand-a
-bounds-hand-a c =
-    let v : Event = c.event_at-w.result in
-    let object : ℕ = v.object in
-    let at-hand : get_or c.args.hand.now (head object) 0 < length (events_of c.args.records.now) = omega (arith, c.requires.0.whole) in
-    omega (arith, at-hand, c.requires.0.few)
+bounds-hand-a c = omega (arith, c.requires.0.whole, c.requires.0.few)
 
 pub offset_bounds-hand-head-2 : goal.offset_bounds-hand-head-2
-offset_bounds-hand-head-2 c =
-    let E : Recording = recording_by c.args.records.now c.args.counts c.args.levels.now in
-    let kind : (event E c.args.e).kind ≡ wait = sym (ap (λ (w : Event). w.kind) c.event_at-w.ensures) ∙ c.if-w-ne-WAIT.false in
-    let v : Event = c.event_at-w.result in
-    let object : ℕ = v.object in
-    let same : object ≡ (event E c.args.e).object = ap (λ (w : Event). w.object) c.event_at-w.ensures in
-    let small : object < 64 = omega (arith, same, c.requires.0.waits c.args.e c.requires.1 kind) in
-    omega (arith, small)
+offset_bounds-hand-head-2 c = omega (arith, small (goal.at.offset_bounds-hand-head-2 c).Else-w-ne-WAIT)
 
 pub bounds-hand-head-2 : goal.bounds-hand-head-2
-bounds-hand-head-2 c =
-    let E : Recording = recording_by c.args.records.now c.args.counts c.args.levels.now in
-    let kind : (event E c.args.e).kind ≡ wait = sym (ap (λ (w : Event). w.kind) c.event_at-w.ensures) ∙ c.if-w-ne-WAIT.false in
-    let v : Event = c.event_at-w.result in
-    let object : ℕ = v.object in
-    let same : object ≡ (event E c.args.e).object = ap (λ (w : Event). w.object) c.event_at-w.ensures in
-    let small : object < 64 = omega (arith, same, c.requires.0.waits c.args.e c.requires.1 kind) in
-    omega (arith, small)
+bounds-hand-head-2 c = omega (arith, small (goal.at.bounds-hand-head-2 c).Else-w-ne-WAIT)
 
 pub returns : goal.returns
 returns c =
-    let v : Event = c.event_at-w.result in
-    let object : ℕ = v.object in
-    let E : Recording = recording_by c.args.records.now c.args.counts c.args.levels.now in
-    let kind : (event E c.args.e).kind ≡ wait = sym (ap (λ (w : Event). w.kind) c.event_at-w.ensures) ∙ c.if-w-ne-WAIT.false in
-    let same : object ≡ (event E c.args.e).object = ap (λ (w : Event). w.object) c.event_at-w.ensures in
-    let small : object < 64 = omega (arith, same, c.requires.0.waits c.args.e c.requires.1 kind) in
-    let first : ℕ → ℕ = λ x. start_of E.levels x in
-    let waits : ℕ → ℕ = λ x. tally (wait_at c.args.records.now x) c.args.e in
-    let Hand : ℕ → ℕ → Type 0 = λ w a. AtHand (signal_at c.args.records.now object) (length (events_of c.args.records.now)) w a in
-    let ready : Hand (waits object - first object) (get_or c.args.hand.now (head object) 0) = c.requires.2.heads object small in
-    let unmatched : ℕ = get_or c.args.unmatched.now object 0 in
-    let counted : unmatched ≡ min (first object) (waits object) = c.requires.2.counted object small in
-    let later-match : first object ≤ unmatched → (f : Found) → f ≡ nth (signals_on E.events object) (waits object - first object)
-    → f ≡ matched E.levels E.events c.args.e = λ h f q. let l : first object ≤ waits object = omega (arith, counted) in
-    q ∙ ap (λ (x : ℕ). nth (signals_on E.events x) (waits x - first x)) same ∙ matched_later E c.args.e kind (subst (λ (x : ℕ). first x ≤ waits x) same l) in
-    let later : first object ≤ unmatched = omega (arith, c.start_of.ensures) in
-    let waiting : wait_at c.args.records.now object c.args.e ≡ true = sym (ap (is_wait object) c.event_at-w.ensures) ∙ both (eq-eqb v.kind wait c.if-w-ne-WAIT.false) (eq-eqb object object refl) in
-    let hand-then : (a : ℕ) → Hand (waits object - first object + 1) a
-    → Matching c.args.records.now (levels_by c.args.counts c.args.levels.now) (c.args.e + 1) c.args.unmatched.now (set c.args.hand.now (head object) a) = λ a n. next_later _ _ _ _ _ c.requires.2 object small waiting later a n c.requires.0.few in
-    let at-hand : get_or c.args.hand.now (head object) 0 < length (events_of c.args.records.now) = omega (arith, c.requires.0.whole) in
+    let d = (goal.at.returns c).Else-w-ne-WAIT in
     let r = c.args.records.now in
-    let l = at-hand in record { value = (later-match later _ (hand_at r signal object _ _ ready l), l); cases = hand-then _ (taken_next _ _ _ _ _ c.requires.2 object _ _ small l ready) }
+    let later : first d (object d) ≤ unmatched d = omega (arith, c.start_of.ensures) in
+    let l : get_or c.args.hand.now (head (object d)) 0 < length (events_of r) = omega (arith, c.requires.0.whole) in
+    record {
+      value = (later_match d later _ (hand_at r signal (object d) _ _ (ready d) l), l);
+      cases = hand_then d later _ (taken_next _ _ _ _ _ c.requires.2 (object d) _ _ (small d) l (ready d));
+    }
