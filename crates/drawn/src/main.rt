@@ -8,8 +8,8 @@ mod jobs;
 mod looks;
 mod routines;
 
+use input::read_full;
 use rows::bytes::{byte, part_of};
-use rows::input::read_full;
 use rows::lines::{Progress, after_line, begin, finish, row_at};
 use rows::log::Log;
 use rows::tally::{Tally, count};

@@ -4,7 +4,6 @@
 #![tactic(auto)]
 
 pub mod bytes;
-pub mod input;
 pub mod lines;
 pub mod log;
 pub mod make;

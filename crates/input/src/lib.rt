@@ -1,4 +1,6 @@
-// The input of a trial, read whole into lent bytes.
+// A program's input, read whole into lent bytes.
+#![tactic(auto)]
+
 ghost use Rattle.std.specs.Prelude.{◌<◌, ◌≤◌, length, take, IfOk};
 ghost use Rattle.std.specs.Io.KnownBytes.{Consumes, IsAtEnd};
 
