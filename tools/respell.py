@@ -33,7 +33,7 @@ def antt_files():
 
 
 def is_walk(path):
-    return os.path.basename(path) in ("Proof.antt", "Answers.antt", "Invariants.antt")
+    return os.path.basename(os.path.dirname(path)) != "proofs" and os.path.basename(path) in ("Proof.antt", "Answers.antt", "Invariants.antt")
 
 
 def snake(part):

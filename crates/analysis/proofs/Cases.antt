@@ -28,7 +28,7 @@ use Rattle.work.proofs.Accepted.{passed, the_recording}
 use Rattle.work.proofs.Questions.{Checked, question_asked}
 use Rattle.work.proofs.Filled.{safe_vectors_lem, recorded_vectors, listing}
 use Rattle.analysis.specs.Lent.{Analysed, Asked}
-use Rattle.analysis.proofs.Answers.{refused-work, refused-list, finished, finished-none, by-question}
+use Rattle.analysis.proofs.Answers.{refused_work, refused_list, finished, finished_none, by_question}
 
 -- the trailer counts no record
 pub no_records : (f : List ℕ) (h : Trailer) → reading_of f ≡ Reading.Accepted h → h.records ≡ 0 → (b : ℕ) (w l : List ℕ) (a : Analysis)
@@ -36,7 +36,7 @@ pub no_records : (f : List ℕ) (h : Trailer) → reading_of f ≡ Reading.Accep
 no_records f h q z b w l a r =
     let (e, p) = accepted_is f h q in
     let n : size (recording_of f) ≡ 0 = size_records f (sound f p) ∙ ap (λ (x : Trailer). x.records) (sym e) ∙ z in
-    finished-none f b w l p n a (r (recording_of f) n)
+    finished_none f b w l p n a (r (recording_of f) n)
 
 module _ (f : List ℕ) (h : Trailer) (q : reading_of f ≡ Reading.Accepted h) (s : List ℕ) (e : s ≡ record_bytes f h) (v : List ℕ) (g : v ≡ level_bytes f h) (b : ℕ) (w : List ℕ) where
   abbrev E : Recording
@@ -51,7 +51,7 @@ module _ (f : List ℕ) (h : Trailer) (q : reading_of f ≡ Reading.Accepted h) 
   -- ---- analysing
 
   pub short_work : (l : List ℕ) → work_fits E w ≡ false → Analysed f b w l (Analysis.Refused Refusal.Work) w l
-  short_work l p = refused-work f b w l (passed f h q) (fits false p)
+  short_work l p = refused_work f b w l (passed f h q) (fits false p)
 
   module _ (p : work_fits E w ≡ true) (w' : List ℕ) (k : w' ≡ filled E b w) where
     now_filled : w' ≡ filled (recording_of f) b w
@@ -67,14 +67,14 @@ module _ (f : List ℕ) (h : Trailer) (q : reading_of f ≡ Reading.Accepted h) 
       ended m x u v o true z =
           finished f b w l (passed f h q) (fits true p) w' l' m n x now_filled (in_list true (rw z at o)) (u ∙ ap (λ (F : Recording). passes_made F b) same)
           (v ∙ ap (λ (F : Recording). is_settled F b) same)
-      ended m x u v o false z = refused-list f b w l (passed f h q) (fits true p) w' l' n now_filled (in_list false (rw z at o))
+      ended m x u v o false z = refused_list f b w l (passed f h q) (fits true p) w' l' n now_filled (in_list false (rw z at o))
 
   -- ---- the question
 
   -- the checks answer k, and leave w'
   module _ (x y : ℕ) (k : Check) (w' : List ℕ) (c : Checked E x y b w k w') where
     asked : (a : Answer) → a ≡ answer_by (recording_of f) x y b k → Asked f x y b w a w'
-    asked a p = by-question f x y b w k (question_asked f h q s e v g x y w k c.0) a w' p (c.1 ∙ ap (λ (F : Recording). after k (λ _. filled F b w) w) same)
+    asked a p = by_question f x y b w k (question_asked f h q s e v g x y w k c.0) a w' p (c.1 ∙ ap (λ (F : Recording). after k (λ _. filled F b w) w) same)
 
     pub refused : (r : Refusal) → k ≡ Check.Failed r → Asked f x y b w (Answer.Refused r) w'
     refused r p = asked (Answer.Refused r) (rw p)

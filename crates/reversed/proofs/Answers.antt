@@ -26,9 +26,9 @@ use Rattle.reversed.specs.Lent.{Reversed}
 use Rattle.reversed.proofs.Forward.{Wrote}
 
 module _ (f : List ℕ) (x y : ℕ) (w o : List ℕ) where
-  pub refused-question : (r : Refusal) → question_check f x y w ≡ Check.Failed r → Reversed f x y w o (Written.Refused r) w o
+  pub refused_question : (r : Refusal) → question_check f x y w ≡ Check.Failed r → Reversed f x y w o (Written.Refused r) w o
   unfolding reversed_check reversed_of work_after_reversing work_after_asking out_after_reversing
-  refused-question r p = record { answer = rw p; work = rw p; out = rw p }
+  refused_question r p = record { answer = rw p; work = rw p; out = rw p }
 
   -- the records s, the counts c and the level bytes b of the file, and its recorded vectors X
   by_parts : question_check f x y w ≡ Check.Passed
@@ -42,18 +42,18 @@ module _ (f : List ℕ) (x y : ℕ) (w o : List ℕ) where
   -- the checks at the records and the level bytes that are cut out of the file answer k, and leave w'
   module _ (h : Trailer) (q : reading_of f ≡ Reading.Accepted h) (s : List ℕ) (e : s ≡ record_bytes f h) (v : List ℕ) (g : v ≡ level_bytes f h)
       (k : Check) (w' : List ℕ) (c : Checked (recording_by s h.counts v) x y 0 w k w') where
-    the-check : question_check f x y w ≡ k
-    the-check = question_asked f h q s e v g x y w k c.0
+    the_check : question_check f x y w ≡ k
+    the_check = question_asked f h q s e v g x y w k c.0
 
     pub refused : (r : Refusal) → k ≡ Check.Failed r → Reversed f x y w o (Written.Refused r) w' o
-    refused r p = let left : w' ≡ w = rw p at c.1 in rw left (refused-question r (the-check ∙ p))
+    refused r p = let left : w' ≡ w = rw p at c.1 in rw left (refused_question r (the_check ∙ p))
 
-    pub written-forward : k ≡ Check.Passed → (X : Vectors) → X ≡ recorded_in s h.counts w'
+    pub written_forward : k ≡ Check.Passed → (X : Vectors) → X ≡ recorded_in s h.counts w'
         → (a : Written) (o' : List ℕ) → Wrote s h.counts v X x y o a o' → Reversed f x y w o a w' o'
-    written-forward p X u a o' t =
+    written_forward p X u a o' t =
         let same = the_recording f h q s e v g in
         let full : w' ≡ filled (recording_by s h.counts v) 0 w = rw p at c.1 in
         let left = full ∙ ap (λ (F : Recording). filled F 0 w) same in
         let z = (accepted_is f h q).0 in
-        by_parts (the-check ∙ p) s h.counts v X (e ∙ ap (record_bytes f) z) (ap (λ (t : Trailer). t.counts) z) (g ∙ ap (level_bytes f) z)
+        by_parts (the_check ∙ p) s h.counts v X (e ∙ ap (record_bytes f) z) (ap (λ (t : Trailer). t.counts) z) (g ∙ ap (level_bytes f) z)
         (u ∙ recorded_vectors s h.counts v (recording_of f) same 0 w w' left) w' left a o' t

@@ -36,10 +36,10 @@ use Rattle.stretches.proofs.Events.{has_position}
 use Rattle.stretches.proofs.Ends.{both_ends}
 
 -- a stretch by the event at its last position
-pub stretch-found : (E : Recording) (s : Stretch) (found : Bool) → found ≡ is_found (at_position E.events s.task s.last)
+pub stretch_found : (E : Recording) (s : Stretch) (found : Bool) → found ≡ is_found (at_position E.events s.task s.last)
     → (ltb s.task (tasks E) && leb 1 s.first && leb s.first s.last && found) ≡ is_stretch E s
 unfolding is_stretch
-stretch-found E s found q =
+stretch_found E s found q =
     let a = ltb s.task (tasks E) in
     and_alike (a && leb 1 s.first && leb s.first s.last)
     (λ t.
@@ -49,32 +49,32 @@ stretch-found E s found q =
     q ∙ sym (has_position E.events s.task s.last (omega arith)))
 
 -- it hangs on no levels
-pub two-levels : (d : List ℕ) (c : Counts) (v : List ℕ) (r s : Stretch) → two_stretches (recording_by d c []) r s ≡ two_stretches (recording_by d c v) r s
+pub two_levels : (d : List ℕ) (c : Counts) (v : List ℕ) (r s : Stretch) → two_stretches (recording_by d c []) r s ≡ two_stretches (recording_by d c v) r s
 unfolding two_stretches is_stretch
-two-levels d c v r s = refl
+two_levels d c v r s = refl
 
 -- the ends decide
-by-found : (l : List Event) (X : Vectors) (r s : Stretch) → ByEnds l X r s → ends_ordered l X r s ≡ before l X r s
+by_found : (l : List Event) (X : Vectors) (r s : Stretch) → ByEnds l X r s → ends_ordered l X r s ≡ before l X r s
 unfolding ends_ordered
-by-found l X r s (a, b, p, q, h) = rw (p, q) (sym h)
+by_found l X r s (a, b, p, q, h) = rw (p, q) (sym h)
 
 pub by_ends : (E : Recording) (b : ℕ) (r s : Stretch) → two_stretches E r s ≡ true → lead_by_ends E.events (safe_vectors E b) r s ≡ lead_of E r s b
 unfolding lead_of
 by_ends E b r s two =
     let (p, q) = both_ends E (safe_vectors E b) (run_rises E b) r s two in
-    rw (by-found E.events (safe_vectors E b) r s p, by-found E.events (safe_vectors E b) s r q)
+    rw (by_found E.events (safe_vectors E b) r s p, by_found E.events (safe_vectors E b) s r q)
 
 -- ---- from a check to what is answered and left
 
-pub by-check : (f : List ℕ) (r s : Stretch) (b : ℕ) (w : List ℕ) (k : Check) → comparing_check f r s w ≡ k → (a : Compared) (w' : List ℕ)
+pub by_check : (f : List ℕ) (r s : Stretch) (b : ℕ) (w : List ℕ) (k : Check) → comparing_check f r s w ≡ k → (a : Compared) (w' : List ℕ)
     → a ≡ compared_by (recording_of f) r s b k → w' ≡ after k (λ _. filled (recording_of f) b w) w → ComparedAs f r s b w a w'
 unfolding compared_of work_after_comparing
-by-check f r s b w k p a w' x y = record { answer = x ∙ rw p; work = y ∙ rw p }
+by_check f r s b w k p a w' x y = record { answer = x ∙ rw p; work = y ∙ rw p }
 
 -- the file's own refusal
-pub refused-file : (f : List ℕ) (r s : Stretch) (b : ℕ) (w : List ℕ) (x : Refusal) → file_check f ≡ Check.Failed x → ComparedAs f r s b w (Compared.Refused x) w
+pub refused_file : (f : List ℕ) (r s : Stretch) (b : ℕ) (w : List ℕ) (x : Refusal) → file_check f ≡ Check.Failed x → ComparedAs f r s b w (Compared.Refused x) w
 unfolding comparing_check
-refused-file f r s b w x p = by-check f r s b w (Check.Failed x) (rw p) _ _ refl refl
+refused_file f r s b w x p = by_check f r s b w (Check.Failed x) (rw p) _ _ refl refl
 
 -- of a file that reading accepts: its records and levels are cut out
 module _ (f : List ℕ) (h : Trailer) (q : reading_of f ≡ Reading.Accepted h) (d : List ℕ) (e : d ≡ record_bytes f h) (v : List ℕ) (g : v ≡ level_bytes f h)
@@ -89,20 +89,20 @@ module _ (f : List ℕ) (h : Trailer) (q : reading_of f ≡ Reading.Accepted h) 
   unfolding comparing_check
   checked k p = rw (passed f h q) (sym (ap (λ (F : Recording). stretch_check F r s w) same) ∙ p)
 
-  pub refused-stretch : two_stretches E r s ≡ false → ComparedAs f r s b w (Compared.Refused Refusal.Stretch) w
+  pub refused_stretch : two_stretches E r s ≡ false → ComparedAs f r s b w (Compared.Refused Refusal.Stretch) w
   unfolding stretch_check
-  refused-stretch p = by-check f r s b w _ (checked (Check.Failed Refusal.Stretch) (rw p)) _ _ refl refl
+  refused_stretch p = by_check f r s b w _ (checked (Check.Failed Refusal.Stretch) (rw p)) _ _ refl refl
 
   module _ (two : two_stretches E r s ≡ true) where
-    pub refused-work : work_fits E w ≡ false → ComparedAs f r s b w (Compared.Refused Refusal.Work) w
+    pub refused_work : work_fits E w ≡ false → ComparedAs f r s b w (Compared.Refused Refusal.Work) w
     unfolding stretch_check
-    refused-work p = by-check f r s b w _ (checked (Check.Failed Refusal.Work) (rw (two, p))) _ _ refl refl
+    refused_work p = by_check f r s b w _ (checked (Check.Failed Refusal.Work) (rw (two, p))) _ _ refl refl
 
     pub answered : work_fits E w ≡ true → (w' : List ℕ) → w' ≡ filled E b w → (x : Lead) → x ≡ lead_by_ends E.events (safe_in d h.counts w') r s
         → ComparedAs f r s b w (Compared.Leads x) w'
     unfolding stretch_check
     answered p w' k x u =
-        by-check f r s b w _ (checked Check.Passed (rw (two, p))) _ _
+        by_check f r s b w _ (checked Check.Passed (rw (two, p))) _ _
         (ap (λ (z : Lead). Compared.Leads z)
         (u ∙ ap (λ (X : Vectors). lead_by_ends E.events X r s) (safe_vectors_lem d h.counts v E refl b w w' k) ∙ by_ends E b r s two
         ∙ ap (λ (F : Recording). lead_of F r s b) same))

@@ -19,17 +19,17 @@ use Rattle.together.specs.Lent.{room_check, list_check, Settled, Held}
 -- ---- the files
 
 module _ (f g v w l : List ℕ) where
-  by-checks : (k m : Check) → both_check f g v w ≡ k → joint_check f g v w l ≡ m → (a : Joint) (v' w' l' : List ℕ) → a ≡ joint_by (recording_of f) m
+  by_checks : (k m : Check) → both_check f g v w ≡ k → joint_check f g v w l ≡ m → (a : Joint) (v' w' l' : List ℕ) → a ≡ joint_by (recording_of f) m
       → v' ≡ after k (λ _. settled_in (recording_of f) v) v → w' ≡ after k (λ _. settled_in (recording_of g) w) w
       → l' ≡ after m (λ _. joint_list (recording_of f) (recording_of g) ++ drop (5 * length (settled_pairs (recording_of f))) l) l
       → Held f g v w l a v' w' l'
   unfolding joint_of first_work_after second_work_after joint_list_after
-  by-checks k m p q a v' w' l' x y z u = record { answer = x ∙ rw q; first = y ∙ rw p; second = z ∙ rw p; list = u ∙ rw q }
+  by_checks k m p q a v' w' l' x y z u = record { answer = x ∙ rw q; first = y ∙ rw p; second = z ∙ rw p; list = u ∙ rw q }
 
   -- nothing is changed where a check of the files fails
   refused : (r : Refusal) → both_check f g v w ≡ Check.Failed r → Held f g v w l (Joint.Refused r) v w l
   unfolding joint_check
-  refused r p = by-checks (Check.Failed r) (Check.Failed r) p (rw p) _ _ _ _ refl refl refl refl
+  refused r p = by_checks (Check.Failed r) (Check.Failed r) p (rw p) _ _ _ _ refl refl refl refl
 
   pub refused_first : (r : Refusal) → file_check f ≡ Check.Failed r → Held f g v w l (Joint.Refused r) v w l
   unfolding both_check
@@ -41,9 +41,9 @@ module _ (f g v w l : List ℕ) where
     refused_second r q = refused r (rw (p, q))
 
     module _ (q : file_check g ≡ Check.Passed) where
-      pub refused-differ : (r : Refusal) → work_alike (recording_of f) (recording_of g) ≡ Check.Failed r → Held f g v w l (Joint.Refused r) v w l
+      pub refused_differ : (r : Refusal) → work_alike (recording_of f) (recording_of g) ≡ Check.Failed r → Held f g v w l (Joint.Refused r) v w l
       unfolding both_check
-      refused-differ r h = refused r (rw (p, q, h))
+      refused_differ r h = refused r (rw (p, q, h))
 
       -- two files of the same work
       pub held_by : work_alike (recording_of f) (recording_of g) ≡ Check.Passed → (E F : Recording) → E ≡ recording_of f → F ≡ recording_of g
@@ -51,7 +51,7 @@ module _ (f g v w l : List ℕ) where
       unfolding both_check joint_check
       held_by h E F x y a v' w' l' u =
           let s = subst₂ (λ (A B : Recording). Settled A B v w l a v' w' l') x y u in
-          by-checks (room_check (recording_of f) (recording_of g) v w) (and_then (room_check (recording_of f) (recording_of g) v w) λ _. list_check (recording_of f) l)
+          by_checks (room_check (recording_of f) (recording_of g) v w) (and_then (room_check (recording_of f) (recording_of g) v w) λ _. list_check (recording_of f) l)
           (rw (p, q, h)) (rw (p, q, h)) a v' w' l' s.answer s.first s.second s.list
 
 -- ---- recordings of the same work
@@ -61,8 +61,8 @@ module _ (E F : Recording) (v w l : List ℕ) where
   short_work h = record { answer = rw h; first = rw h; second = rw h; list = rw h }
 
   module _ (h : (work_fits E v && work_fits F w) ≡ true) (v' w' : List ℕ) (k : v' ≡ settled_in E v) (m : w' ≡ settled_in F w) where
-    pub short-list : (n : ℕ) (l' : List ℕ) → n ≡ length (settled_pairs E) → joint_fits E l ≡ false → l' ≡ l → Settled E F v w l (Joint.Refused (Refusal.List n)) v' w' l'
-    short-list n l' e r q = record { answer = rw (h, r, e); first = k ∙ rw h; second = m ∙ rw h; list = q ∙ rw (h, r) }
+    pub short_list : (n : ℕ) (l' : List ℕ) → n ≡ length (settled_pairs E) → joint_fits E l ≡ false → l' ≡ l → Settled E F v w l (Joint.Refused (Refusal.List n)) v' w' l'
+    short_list n l' e r q = record { answer = rw (h, r, e); first = k ∙ rw h; second = m ∙ rw h; list = q ∙ rw (h, r) }
 
     pub finished : (n : ℕ) (l' : List ℕ) → n ≡ length (settled_pairs E) → joint_fits E l ≡ true
         → l' ≡ joint_list E F ++ drop (5 * length (settled_pairs E)) l → Settled E F v w l (Joint.Pairs n) v' w' l'

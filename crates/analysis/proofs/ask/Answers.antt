@@ -2,7 +2,7 @@
 use mathlib.Core.Path.{refl, sym, ◌∙◌}
 use Rattle.recording.proofs.Files.{refused_is}
 use Rattle.work.proofs.Questions.{question_file}
-use Rattle.analysis.proofs.Answers.{by-question}
+use Rattle.analysis.proofs.Answers.{by_question}
 use Rattle.analysis.proofs.ask.Goals as goal
 
 pub ask_read-requires : goal.ask_read-requires
@@ -15,5 +15,5 @@ returns-in-Accepted c =
 
 pub returns-in-Refused : goal.returns-in-Refused
 returns-in-Refused c =
-    let r = by-question _ _ _ _ _ _ (question_file _ _ _ _ _ (refused_is _ _ (sym c.read.ensures ∙ c.in-Refused.is))) _ _ refl refl in
+    let r = by_question _ _ _ _ _ _ (question_file _ _ _ _ _ (refused_is _ _ (sym c.read.ensures ∙ c.in-Refused.is))) _ _ refl refl in
     record { value = r.answer; work_after = r.work }

@@ -5,7 +5,7 @@ use Rattle.passes.specs.Lent.{Numbered}
 use Rattle.work.specs.Lent.{Ready, Roomy}
 use Rattle.work.proofs.Accepted.{inside, levels_inside, few_levels, ready}
 use Rattle.work.proofs.Questions.{asked_passed}
-use Rattle.reversed.proofs.Answers.{refused, written-forward}
+use Rattle.reversed.proofs.Answers.{refused, written_forward}
 use Rattle.reversed.proofs.reverse_read.Goals as goal
 
 pub records_of-records-requires : goal.records_of-records-requires
@@ -41,7 +41,7 @@ write_forward-requires c =
 pub returns-in-Passed : goal.returns-in-Passed
 returns-in-Passed c =
     let a = c.args in
-    written-forward a.file.now a.chosen a.other a.work.now a.out.now a.trailer c.requires _ c.records_of-records.ensures _ c.levels_of-levels.ensures
+    written_forward a.file.now a.chosen a.other a.work.now a.out.now a.trailer c.requires _ c.records_of-records.ensures _ c.levels_of-levels.ensures
     _ _ (c.fill_asked.ensures.value, c.fill_asked.ensures.work_after) c.in-Passed.is _ c.recorded_part-recorded.ensures.0 _ _ (c.write_forward.ensures.value, c.write_forward.ensures.out_after)
 
 pub returns-in-Failed : goal.returns-in-Failed

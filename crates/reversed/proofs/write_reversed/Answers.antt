@@ -2,7 +2,7 @@
 use mathlib.Core.Path.{sym, ◌∙◌}
 use Rattle.recording.proofs.Files.{refused_is}
 use Rattle.work.proofs.Questions.{question_file}
-use Rattle.reversed.proofs.Answers.{refused-question}
+use Rattle.reversed.proofs.Answers.{refused_question}
 use Rattle.reversed.proofs.write_reversed.Goals as goal
 
 pub reverse_read-requires : goal.reverse_read-requires
@@ -15,5 +15,5 @@ returns-in-Accepted c =
 
 pub returns-in-Refused : goal.returns-in-Refused
 returns-in-Refused c =
-    let r = refused-question _ _ _ _ _ _ (question_file _ _ _ _ _ (refused_is _ _ (sym c.read.ensures ∙ c.in-Refused.is))) in
+    let r = refused_question _ _ _ _ _ _ (question_file _ _ _ _ _ (refused_is _ _ (sym c.read.ensures ∙ c.in-Refused.is))) in
     record { value = r.answer; work_after = r.work; out_after = r.out }

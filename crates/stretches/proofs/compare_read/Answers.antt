@@ -13,7 +13,7 @@ use Rattle.work.proofs.Accepted.{inside, levels_inside, ready}
 use Rattle.work.proofs.Parts.{roomy}
 use Rattle.stretches.specs.Stretches.{two_stretches}
 use Rattle.stretches.specs.Lent.{lead_by_ends}
-use Rattle.stretches.proofs.Answers.{two-levels, refused-stretch, refused-work, answered}
+use Rattle.stretches.proofs.Answers.{two_levels, refused_stretch, refused_work, answered}
 use Rattle.stretches.proofs.compare_read.Goals as goal
 
 pub records_of-records-requires : goal.records_of-records-requires
@@ -32,8 +32,8 @@ positions-positions-requires c =
 pub returns-then-not-two_stretches : goal.returns-then-not-two_stretches
 returns-then-not-two_stretches c =
     let a = c.args in
-    refused-stretch a.file.now a.trailer c.requires _ c.records_of-records.ensures _ c.levels_of-levels.ensures a.one a.other a.budget a.work.now
-    (sym (two-levels _ _ c.levels_of-levels.result.now _ _) ∙ (sym c.two_stretches.ensures ∙ not-true _ (ap not c.if-not-two_stretches.true)))
+    refused_stretch a.file.now a.trailer c.requires _ c.records_of-records.ensures _ c.levels_of-levels.ensures a.one a.other a.budget a.work.now
+    (sym (two_levels _ _ c.levels_of-levels.result.now _ _) ∙ (sym c.two_stretches.ensures ∙ not-true _ (ap not c.if-not-two_stretches.true)))
 
 pub work_fits-requires : goal.work_fits-requires
 work_fits-requires c =
@@ -43,9 +43,9 @@ work_fits-requires c =
 pub returns-then-not-work_fits : goal.returns-then-not-work_fits
 returns-then-not-work_fits c =
     let recording : Recording = recording_by c.records_of-records.result.now c.args.trailer.counts c.levels_of-levels.result.now in
-    let two : two_stretches recording c.args.one c.args.other ≡ true = sym (two-levels _ _ c.levels_of-levels.result.now _ _) ∙ (sym c.two_stretches.ensures ∙ not-false _ (ap not c.if-not-two_stretches.false)) in
+    let two : two_stretches recording c.args.one c.args.other ≡ true = sym (two_levels _ _ c.levels_of-levels.result.now _ _) ∙ (sym c.two_stretches.ensures ∙ not-false _ (ap not c.if-not-two_stretches.false)) in
     let a = c.args in
-    refused-work a.file.now a.trailer c.requires _ c.records_of-records.ensures _ c.levels_of-levels.ensures a.one a.other a.budget a.work.now
+    refused_work a.file.now a.trailer c.requires _ c.records_of-records.ensures _ c.levels_of-levels.ensures a.one a.other a.budget a.work.now
     two (sym c.work_fits.ensures ∙ not-true _ (ap not c.if-not-work_fits.true))
 
 pub fill-requires : goal.fill-requires
@@ -70,7 +70,7 @@ lead_by_ends-requires c =
 pub returns : goal.returns
 returns c =
     let recording : Recording = recording_by c.records_of-records.result.now c.args.trailer.counts c.levels_of-levels.result.now in
-    let two : two_stretches recording c.args.one c.args.other ≡ true = sym (two-levels _ _ c.levels_of-levels.result.now _ _) ∙ (sym c.two_stretches.ensures ∙ not-false _ (ap not c.if-not-two_stretches.false)) in
+    let two : two_stretches recording c.args.one c.args.other ≡ true = sym (two_levels _ _ c.levels_of-levels.result.now _ _) ∙ (sym c.two_stretches.ensures ∙ not-false _ (ap not c.if-not-two_stretches.false)) in
     let fits : work_fits recording c.args.work.now ≡ true = sym c.work_fits.ensures ∙ not-false _ (ap not c.if-not-work_fits.false) in
     let a = c.args in
     answered a.file.now a.trailer c.requires _ c.records_of-records.ensures _ c.levels_of-levels.ensures a.one a.other a.budget a.work.now

@@ -9,7 +9,7 @@ use Rattle.model.specs.OneJob.{SameWork}
 use Rattle.model.proofs.Together.{together}
 use Rattle.work.specs.Lent.{Ready}
 use Rattle.work.proofs.Accepted.{passed, inside, levels_inside, the_recording, ready}
-use Rattle.together.proofs.Answers.{refused-differ, held_by}
+use Rattle.together.proofs.Answers.{refused_differ, held_by}
 use Rattle.together.proofs.compare.Goals as goal
 
 pub records_of-a-requires : goal.records_of-a-requires
@@ -65,4 +65,4 @@ returns-in-Failed c =
     let second : Recording = recording_by c.records_of-b.result.now c.args.other.counts c.levels_of-y.result.now in
     let second_is : second ≡ recording_of c.args.second.now = the_recording c.args.second.now c.args.other c.requires.1 _ c.records_of-b.ensures _ c.levels_of-y.ensures in
     let answer : (k : Check) → c.work_alike.result ≡ k → work_alike (recording_of c.args.first.now) (recording_of c.args.second.now) ≡ k = λ k e. sym (ap₂ work_alike first-is second_is) ∙ sym c.work_alike.ensures ∙ e in
-    refused-differ _ _ _ _ _ (passed _ _ c.requires.0) (passed _ _ c.requires.1) _ (answer _ c.in-Failed.is)
+    refused_differ _ _ _ _ _ (passed _ _ c.requires.0) (passed _ _ c.requires.1) _ (answer _ c.in-Failed.is)

@@ -19,7 +19,7 @@ use Rattle.work.specs.Lent.{Roomy}
 use Rattle.work.proofs.Parts.{roomy}
 use Rattle.work.proofs.Filled.{recorded_vectors, listing}
 use Rattle.together.specs.Naming.{named}
-use Rattle.together.proofs.Answers.{short_work, short-list, finished}
+use Rattle.together.proofs.Answers.{short_work, short_list, finished}
 use Rattle.together.proofs.Joining.{all_pairs, their_room, unwritten, room_left, of_first, one_list, named_levels, records_by}
 use Rattle.together.proofs.hold.Goals as goal
 
@@ -45,7 +45,7 @@ settle-requires-2 c =
     let second-room : Roomy c.args.second.now c.args.second_counts c.args.second_work.now = roomy c.args.second.now c.args.second_counts c.args.second_work.now (second (work_fits E c.args.first_work.now) _ fits) in
     (c.requires.second, second-room, c.positions-there.ensures)
 
--- and are filled
+-- both work memories are filled
 pub list_pairs-listed-requires : goal.list_pairs-listed-requires
 list_pairs-listed-requires c =
     let E : Recording = recording_by c.args.first.now c.args.first_counts c.args.first_levels.now in
@@ -62,7 +62,7 @@ returns-then-not-listed c =
     let list : WrittenList 5 (listed E (budget_of E)) c.args.list.now c.list_pairs-listed.new.list c.list_pairs-listed.result.fits c.list_pairs-listed.result.pairs = listing c.args.first.now c.args.first_counts c.args.first_levels.now E refl (budget_of E) c.args.first_work.now _ c.settle.ensures 5 _ _ _ _
     c.list_pairs-listed.ensures in
     let z = not-true _ c.if-not-listed.true in
-    short-list E F _ _ _ fits _ _ c.settle.ensures c.settle-2.ensures _ _ (all_pairs _ _ _ _ _ list) (their_room _ _ _ _ _ list ∙ z) (unwritten _ _ _ _ _ list z)
+    short_list E F _ _ _ fits _ _ c.settle.ensures c.settle-2.ensures _ _ (all_pairs _ _ _ _ _ list) (their_room _ _ _ _ _ list ∙ z) (unwritten _ _ _ _ _ list z)
 
 pub name_all-requires : goal.name_all-requires
 name_all-requires c =
