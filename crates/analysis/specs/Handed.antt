@@ -2,7 +2,7 @@
 -- promises hold.
 -- Assumes nothing.
 use Rattle.std.specs.Prelude.{ℕ, ◌*◌, ◌≡◌, Bool, List, ◌++◌, length, drop}
-use Rattle.model.specs.declared.Analysis.{Analysis}
+use Rattle.model.specs.Analysing.{analysed}
 use Rattle.model.specs.File.{recording_of}
 use Rattle.model.specs.Passes.{passes_made, is_settled}
 use Rattle.model.specs.Pairs.{listed, entry_numbers}
@@ -21,4 +21,4 @@ pub record Handed (f : List ℕ) (b m : ℕ) (s : Bool) (n : ℕ) (l l' : List �
 abbrev pub HandedBack : Type 0
 HandedBack =
     (f : List ℕ) (b : ℕ) (w l : List ℕ) (m : ℕ) (s : Bool) (n : ℕ) (w' l' : List ℕ)
-    → Analysed f b w l (Analysis.Done m s n) w' l' → Handed f b m s n l l'
+    → Analysed f b w l (analysed m s n) w' l' → Handed f b m s n l l'

@@ -4,10 +4,12 @@
 #![tactic(auto)]
 
 pub mod call;
+mod compare;
 pub mod lists;
 pub mod looks;
 pub mod printed;
 mod reading;
 pub mod shown;
+pub mod told;
 pub mod tries;
 pub mod writing;

@@ -2,129 +2,150 @@
 // analyser says.
 ghost use Rattle.std.specs.Prelude.{◌≤◌};
 
-use crate::call::{ASK, Call, REVERSED, WAYS, call_of};
+use crate::call::{Call, WAYS, answer, needed, parts_of};
+use crate::reading::{counts_of, reads_as};
+use crate::told::{Answer, Told};
 use crate::tries::{try_way, try_ways};
-use crate::{call, reading};
-use rows::bytes::{number, same_bytes};
-use rows::log::Log;
-use rows::records::{name_events, record_at};
-use rows::tally::{Tally, count};
-use second::Told;
-use std::num::wrapping_add_u32;
+use rows::bytes::{at, part_of};
+use rows::records::{Name, name_events};
+use rows::tally::{Met, Trial};
+use second::{Fault, Parts, Relation};
 
-// The first of n events that has a name; n where there is none.
-fn event_of(names: &[u16], n: u16, name: u16) -> u16 {
-    for e in 0..n {
-        if number(names, e as usize) == name {
-            return e;
-        }
-    }
-    n
+// ---- a recording that was written
+
+// The names of a file's events.
+pub(crate) fn names_of(records: &[u8]) -> [Name; 1024] {
+    let mut names = [Name::default(); 1024];
+    name_events(records, &mut names);
+    names
 }
 
-// Each of n records stands in the other file too, at its position in its task.
-fn is_rearranged(a: &[u8], names: &[u16], b: &[u8], other_names: &[u16], n: u16) -> bool {
-    for e in 0..n {
-        let i = event_of(other_names, n, number(names, e as usize));
-        if n <= i || !same_bytes(record_at(a, e), record_at(b, i)) {
+// The first event that has a name.
+fn event_of(names: &[Name], name: Name) -> Option<usize> {
+    names.iter().position(|other| *other == name)
+}
+
+// Each record stands in the other file too, at its position in its task.
+fn is_rearranged(records: &[u8], names: &[Name], shown: &[u8], shown_names: &[Name]) -> bool {
+    for (name, record) in names.iter().zip(records.chunks_exact(4)) {
+        let Some(e) = event_of(shown_names, *name) else {
+            return false;
+        };
+        if part_of(shown, e.wrapping_mul(4), e.wrapping_mul(4).wrapping_add(4)) != record {
             return false;
         }
     }
     true
 }
 
-// ---- a recording that was written
-
-// The recording has the file's records in another order, each task's own kept, and event x of the file
+// The recording has the file's n records in another order, each task's own kept, and event x of the file
 // earlier than y.
-fn is_reversed(records: &[u8], shown: &[u8], n: u16, x: usize, y: usize) -> bool {
-    let mut names = [0u16; 1024];
-    let mut other_names = [0u16; 1024];
-    name_events(records, &mut names);
-    name_events(shown, &mut other_names);
-    let first = event_of(&other_names, n, number(&names, x));
-    let then = event_of(&other_names, n, number(&names, y));
-    first < then && is_rearranged(records, &names, shown, &other_names, n)
+fn is_reversed(records: &[u8], shown: &[u8], n: usize, x: usize, y: usize) -> bool {
+    let all = names_of(records);
+    let all_shown = names_of(shown);
+    let names = part_of(&all, 0, n);
+    let shown_names = part_of(&all_shown, 0, n);
+    let earlier = match (
+        event_of(shown_names, at(names, x)),
+        event_of(shown_names, at(names, y)),
+    ) {
+        (Some(first), Some(then)) => first < then,
+        _ => false,
+    };
+    earlier && is_rearranged(records, names, shown, shown_names)
 }
 
 // Reading accepts the recording, with start 0 and the counts, edition, start bytes and post bytes of
 // the file; analysing does; and it shows event x earlier than y.
 fn shows(file: &[u8], shown: &[u8], x: usize, y: usize) -> bool {
     let mut list = [0u16; 24576];
-    let mut none = [0u8; 1];
-    let r = second::read(file);
+    let r = second::trailer(file).unwrap_or_default();
+    let held = parts_of(file);
     let records = recording::records(shown);
-    let c = reading::counts_of(r);
-    reading::reads_as(
-        shown,
-        records,
-        recording::starts(file),
-        recording::posts(file),
-        c,
-    ) && second::read(shown).events == r.events
-        && call::answer(call::analysing(1), shown, b"", &mut list, &mut none).refusal == 0
-        && is_reversed(recording::records(file), records, r.events, x, y)
+    let parts = Parts { records, ..held };
+    let analyse = Call::Analyse {
+        file: shown,
+        budget: 1,
+    };
+    reads_as(shown, parts, counts_of(r))
+        && records.len() == held.records.len()
+        && answer(analyse, &mut list, &mut [0; 1]).is_ok()
+        && is_reversed(held.records, records, r.events as usize, x, y)
 }
 
-// What is looked at after a call that answered this and wrote this recording.
+// What is looked at after a pair was asked to be shown reversed, and this was written.
 pub(crate) fn try_shown(
-    t: Tally,
-    log: &mut Log,
-    c: Call,
+    trial: &mut Trial,
     file: &[u8],
-    o: Told,
+    chosen: usize,
+    other: usize,
+    told: Told,
     shown: &[u8],
-) -> Tally
-    ensures { t.wrong ≤ result.wrong }
+)
+    ensures { trial.old.tally.wrong ≤ trial.new.tally.wrong }
 {
-    if o.refusal == 0 {
-        let mut next = count(t, log, shows(file, shown, c.a, c.b), file);
-        next.written = wrapping_add_u32(t.written, 1);
-        return next;
+    match told {
+        Ok(_) => {
+            trial.count(shows(file, shown, chosen, other), file);
+            trial.meet(Met::Written, 1);
+        }
+        Err(Fault::Unsure) => trial.meet(Met::Unsure, 1),
+        Err(_) => {}
     }
-    if o.refusal == 15 {
-        let mut next = t;
-        next.unsure = wrapping_add_u32(t.unsure, 1);
-        return next;
-    }
-    t
 }
 
 // ---- tries
 
-// What the library answers, with enough memory lent; the recording is left in shown.
-fn refusal_of(c: Call, file: &[u8], shown: &mut [u8]) -> u16 {
-    let mut list = [0u16; 1];
-    call::answer(c, file, b"", &mut list, shown).refusal
-}
-
 // The library's question says that a pair is sure.
 fn is_sure(file: &[u8], x: usize, y: usize) -> bool {
-    let mut list = [0u16; 1];
-    let mut none = [0u8; 1];
-    call::answer(call_of(ASK, x, y, 0), file, b"", &mut list, &mut none).relation == 4
+    let ask = Call::Ask {
+        file,
+        a: x,
+        b: y,
+        budget: 0,
+    };
+    answer(ask, &mut [0; 1], &mut [0; 1]) == Ok(Answer::Related(Relation::Sure))
+}
+
+// The first event chosen to be earlier, and the other.
+fn both_ways(file: &[u8], x: usize, y: usize) -> (Call<'_>, Call<'_>) {
+    let there = Call::Reversed {
+        file,
+        chosen: x,
+        other: y,
+    };
+    let back = Call::Reversed {
+        file,
+        chosen: y,
+        other: x,
+    };
+    (there, back)
+}
+
+// Why the library writes no recording, with enough memory lent.
+fn refusal_of(call: Call) -> Option<Fault> {
+    answer(call, &mut [0; 1], &mut [0; 4200]).err()
 }
 
 // Both events as the chosen one, with the sizes that are needed and with more. Whichever event is
 // chosen, the library writes a recording or refuses alike, and writes exactly of a sure pair.
-pub fn try_pair(t: Tally, log: &mut Log, file: &[u8], x: usize, y: usize) -> Tally
-    ensures { t.wrong ≤ result.wrong }
+pub fn try_pair(trial: &mut Trial, file: &[u8], x: usize, y: usize)
+    ensures { trial.old.tally.wrong ≤ trial.new.tally.wrong }
 {
-    let mut shown = [0u8; 4200];
-    let c = call_of(REVERSED, x, y, 0);
-    let d = call_of(REVERSED, y, x, 0);
-    let need = call::needed(c, file, b"");
-    let there = try_way(t, log, c, file, b"", need, 0);
-    let back = try_way(there, log, d, file, b"", need, 1);
-    let refusal = refusal_of(c, file, &mut shown);
-    let alike = refusal == refusal_of(d, file, &mut shown) && (refusal == 0) == is_sure(file, x, y);
-    count(back, log, alike, file)
+    let (there, back) = both_ways(file, x, y);
+    let need = needed(there);
+    try_way(trial, there, need, 0);
+    try_way(trial, back, need, 1);
+    let refusal = refusal_of(there);
+    let alike = refusal == refusal_of(back) && refusal.is_none() == is_sure(file, x, y);
+    trial.count(alike, file);
 }
 
 // Both events as the chosen one, with each of the sizes.
-pub fn try_sizes(t: Tally, log: &mut Log, file: &[u8], x: usize, y: usize) -> Tally
-    ensures { t.wrong ≤ result.wrong }
+pub fn try_sizes(trial: &mut Trial, file: &[u8], x: usize, y: usize)
+    ensures { trial.old.tally.wrong ≤ trial.new.tally.wrong }
 {
-    let there = try_ways(t, log, call_of(REVERSED, x, y, 0), file, b"", WAYS);
-    try_ways(there, log, call_of(REVERSED, y, x, 0), file, b"", WAYS)
+    let (there, back) = both_ways(file, x, y);
+    try_ways(trial, there, WAYS);
+    try_ways(trial, back, WAYS);
 }

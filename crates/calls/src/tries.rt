@@ -1,275 +1,243 @@
 // What is compared of one file or of two, with a count of the comparisons.
 ghost use Rattle.std.specs.Prelude.{◌≤◌};
 
-use crate::call::{
-    ASK, Call, Lent, Outcome, REVERSED, STRETCHES, TOGETHER, TURNED, WAYS, WRITE, call_of, sized,
-    sized_by,
-};
-use crate::{call, reading, shown};
-use rows::bytes::{byte, part_of, product, same_bytes};
-use rows::log::Log;
-use rows::tally::{Tally, count, count_both};
-use rows::text::{short, word};
-use second::Told;
-use std::num::wrapping_add_u32;
+use crate::call::{Call, Lent, WAYS, needed, ours, parts_of, sizes_in};
+use crate::compare::{Outcome, compare};
+use crate::reading::{counts_of, reading_agrees, reads_as};
+use crate::shown::{try_pair, try_shown};
+use crate::told::{Answer, Told, length};
+use rows::bytes::{part_of, product};
+use rows::tally::{Met, Trial};
+use rows::text::{is_space, is_word, value, word};
+use second::{Fault, Lead};
 
 // A budget with which every recording settles.
 pub const ENDLESS: u32 = 4294967295;
 
+// What an answer refuses: the number of the refusal, its record, and the task and position that differ; 0 for
+// each that there is not.
+fn refusal(fault: Option<Fault>) -> [u16; 4] {
+    match fault {
+        Some(Fault::Differ { task, position }) => [14, 0, task, position],
+        Some(fault) => [fault.number(), fault.record().unwrap_or(0), 0, 0],
+        None => [0; 4],
+    }
+}
+
 // Reading refuses a file by this number at this record; 0 accepts it.
-pub fn try_refused(t: Tally, log: &mut Log, file: &[u8], number: u16, record: u16) -> Tally
-    ensures { t.wrong ≤ result.wrong }
+pub fn try_refused(trial: &mut Trial, file: &[u8], number: u16, record: u16)
+    ensures { trial.old.tally.wrong ≤ trial.new.tally.wrong }
 {
-    let r = second::read(file);
-    count(t, log, r.refusal == number && r.record == record, file)
+    let read = refusal(second::read(file).err());
+    trial.count(read == [number, record, 0, 0], file);
 }
 
 // ---- calls
 
 // What comparing two stretches answered is met.
-fn meet(t: Tally, o: Told) -> Tally
-    ensures { t.wrong ≤ result.wrong }
+fn meet(trial: &mut Trial, told: Told)
+    ensures { trial.old.tally.wrong ≤ trial.new.tally.wrong }
 {
-    let mut next = t;
-    let relation = o.relation;
-    match relation {
-        1 | 2 => next.leading = wrapping_add_u32(t.leading, 1),
-        3 => next.neither = wrapping_add_u32(t.neither, 1),
-        _ => {
-            if o.refusal == 17 {
-                next.unfit = wrapping_add_u32(t.unfit, 1);
-            }
-        }
+    match told {
+        Ok(Answer::Leads(Lead::First | Lead::Second)) => trial.meet(Met::Leading, 1),
+        Ok(Answer::Leads(Lead::Neither)) => trial.meet(Met::Neither, 1),
+        Err(Fault::Stretch) => trial.meet(Met::Unfit, 1),
+        _ => {}
     }
-    next
 }
 
 // A call that came out so, with this output. Where a whole file was written, it is read back; where it
 // shows a pair reversed, that is looked at; what stretches are to each other is met.
-pub(crate) fn try_outcome(
-    t: Tally,
-    log: &mut Log,
-    c: Call,
-    one: &[u8],
-    two: &[u8],
-    three: &[u8],
-    o: Outcome,
-    out: &[u8],
-) -> Tally
-    ensures { t.wrong ≤ result.wrong }
+fn try_outcome(trial: &mut Trial, call: Call, o: Outcome, out: &[u8])
+    ensures { trial.old.tally.wrong ≤ trial.new.tally.wrong }
 {
     let told = o.told;
-    let file = part_of(out, 0, told.length);
-    let read = c.which != WRITE
-        || told.refusal != 0
-        || reading::reads_as(file, one, two, three, c.counts);
-    let next = count_both(t, log, o.agrees && read, one, two);
-    if c.which == REVERSED {
-        return shown::try_shown(next, log, c, one, told, file);
+    let written = part_of(out, 0, length(told));
+    let read = match call {
+        Call::Write { parts, counts } => told.is_err() || reads_as(written, parts, counts),
+        _ => true,
+    };
+    let (one, two) = call.files();
+    trial.count_both(o.agrees && read, one, two);
+    match call {
+        Call::Reversed {
+            file,
+            chosen,
+            other,
+        } => try_shown(trial, file, chosen, other, told, written),
+        Call::Compare { .. } => meet(trial, told),
+        _ => {}
     }
-    if c.which == STRETCHES {
-        return meet(next, told);
-    }
-    next
 }
 
 // A call with these lengths of lent memory.
-pub fn try_lent(
-    t: Tally,
-    log: &mut Log,
-    c: Call,
-    one: &[u8],
-    two: &[u8],
-    three: &[u8],
-    l: Lent,
-) -> Tally
-    ensures { t.wrong ≤ result.wrong }
+pub fn try_lent(trial: &mut Trial, call: Call, l: Lent)
+    ensures { trial.old.tally.wrong ≤ trial.new.tally.wrong }
 {
     let mut out = [0u8; 8192];
-    let o = call::compare(c, one, two, three, l, &mut out);
-    try_outcome(t, log, c, one, two, three, o, &out)
+    let o = compare(call, l, &mut out);
+    try_outcome(trial, call, o, &out);
 }
 
 // A call with one of the sizes of lent memory. The last of two files held together turns them.
-pub fn try_way(
-    t: Tally,
-    log: &mut Log,
-    c: Call,
-    one: &[u8],
-    two: &[u8],
-    need: Lent,
-    way: u32,
-) -> Tally
-    ensures { t.wrong ≤ result.wrong }
+pub fn try_way(trial: &mut Trial, call: Call, need: Lent, way: u32)
+    ensures { trial.old.tally.wrong ≤ trial.new.tally.wrong }
 {
-    if c.which == TOGETHER && way == 7 {
-        let turned = call_of(TURNED, 0, 0, 0);
-        return try_lent(t, log, turned, one, two, b"", sized(need, b"99=="));
+    match call {
+        Call::Together { one, two } if way == 7 => {
+            try_lent(
+                trial,
+                Call::Turned { one, two },
+                need.sized(sizes_in(b"99==")),
+            );
+        }
+        _ => try_lent(trial, call, need.sized_by(way)),
     }
-    try_lent(t, log, c, one, two, b"", sized_by(need, way))
 }
 
 // A call with so many of the sizes.
-pub fn try_ways(t: Tally, log: &mut Log, c: Call, one: &[u8], two: &[u8], ways: u32) -> Tally
-    ensures { t.wrong ≤ result.wrong }
+pub fn try_ways(trial: &mut Trial, call: Call, ways: u32)
+    ensures { trial.old.tally.wrong ≤ trial.new.tally.wrong }
 {
-    let need = call::needed(c, one, two);
-    let mut next = t;
+    let need = needed(call);
     for way in 0..ways {
-        next = try_way(next, log, c, one, two, need, way);
+        try_way(trial, call, need, way);
     }
-    next
 }
 
 // Analysing with each of its sizes.
-pub fn try_analysing(t: Tally, log: &mut Log, file: &[u8], budget: u32) -> Tally
-    ensures { t.wrong ≤ result.wrong }
+pub fn try_analysing(trial: &mut Trial, file: &[u8], budget: u32)
+    ensures { trial.old.tally.wrong ≤ trial.new.tally.wrong }
 {
-    try_ways(t, log, call::analysing(budget), file, b"", 6)
+    try_ways(trial, Call::Analyse { file, budget }, 6);
 }
 
 // ---- calls with an answer by hand
 
 // `refused NUMBER RECORD TASK POSITION`: what a call answers, 0 for each that is left out.
-pub fn try_refusal(t: Tally, log: &mut Log, o: Told, s: &[u8], one: &[u8], two: &[u8]) -> Tally
-    ensures { t.wrong ≤ result.wrong }
-{
-    let refused = (o.refusal == short(s, 1))
-        & (o.record == short(s, 2))
-        & (o.task == short(s, 3))
-        & (o.position == short(s, 4));
-    count_both(t, log, refused, one, two)
+fn is_refused(told: Told, s: &[u8]) -> bool {
+    refusal(told.err()) == [value(s, 1), value(s, 2), value(s, 3), value(s, 4)]
 }
 
-// `leads N`: which of two stretches is before the other; or `refused ..`.
-fn try_told(t: Tally, log: &mut Log, o: Told, s: &[u8], one: &[u8], two: &[u8]) -> Tally
-    ensures { t.wrong ≤ result.wrong }
+// A call that answers so is refused as the row says.
+pub fn try_refusal(trial: &mut Trial, call: Call, told: Told, s: &[u8])
+    ensures { trial.old.tally.wrong ≤ trial.new.tally.wrong }
 {
-    if byte(word(s, 0), 0) == b'l' {
-        return count_both(t, log, o.relation == short(s, 1), one, two);
+    let (one, two) = call.files();
+    trial.count_both(is_refused(told, s), one, two);
+}
+
+// `leads N`: which of two stretches is before the other, 3 for neither; 0 for an answer of another kind.
+fn is_led(told: Told, s: &[u8]) -> bool {
+    match told {
+        Ok(Answer::Leads(lead)) => lead as u16 == value(s, 1),
+        Ok(Answer::Related(relation)) => relation as u16 == value(s, 1),
+        _ => value::<u16>(s, 1) == 0,
     }
-    try_refusal(t, log, o, s, one, two)
+}
+
+// `leads ..` or `refused ..`.
+fn try_told(trial: &mut Trial, call: Call, told: Told, s: &[u8])
+    ensures { trial.old.tally.wrong ≤ trial.new.tally.wrong }
+{
+    if word(s, 0).first() != Some(&b'l') {
+        return try_refusal(trial, call, told, s);
+    }
+    let (one, two) = call.files();
+    trial.count_both(is_led(told, s), one, two);
 }
 
 // A call that answers so, with these lengths of lent memory.
-pub fn try_answer(
-    t: Tally,
-    log: &mut Log,
-    c: Call,
-    one: &[u8],
-    two: &[u8],
-    three: &[u8],
-    l: Lent,
-    answer: &[u8],
-) -> Tally
-    ensures { t.wrong ≤ result.wrong }
+pub fn try_answer(trial: &mut Trial, call: Call, l: Lent, answer: &[u8])
+    ensures { trial.old.tally.wrong ≤ trial.new.tally.wrong }
 {
     let mut out = [0u8; 8192];
-    let o = call::compare(c, one, two, three, l, &mut out);
-    let told = try_told(t, log, o.told, answer, one, two);
-    try_outcome(told, log, c, one, two, three, o, &out)
+    let o = compare(call, l, &mut out);
+    try_told(trial, call, o.told, answer);
+    try_outcome(trial, call, o, &out);
 }
 
 // A call that answers so, with each of the lent sizes that are named.
-pub fn try_sized(
-    t: Tally,
-    log: &mut Log,
-    c: Call,
-    one: &[u8],
-    two: &[u8],
-    three: &[u8],
-    need: Lent,
-    sizes: &[u8],
-    answer: &[u8],
-) -> Tally
-    ensures { t.wrong ≤ result.wrong }
+pub fn try_sized(trial: &mut Trial, call: Call, sizes: &[u8], answer: &[u8])
+    ensures { trial.old.tally.wrong ≤ trial.new.tally.wrong }
 {
-    let mut next = t;
-    for k in 0..8u16 {
-        let letters = word(sizes, k);
-        if letters.len() == 0 {
-            return next;
-        }
-        next = try_answer(next, log, c, one, two, three, sized(need, letters), answer);
+    let need = needed(call);
+    for letters in sizes.split(is_space).filter(is_word).take(8) {
+        try_answer(trial, call, need.sized(sizes_in(letters)), answer);
     }
-    next
 }
 
 // ---- pairs of events
 
 // A question about a and b; or both shown reversed, and with one of the sizes, where a is at most b.
-fn try_events(t: Tally, log: &mut Log, c: Call, file: &[u8], a: usize, b: usize, l: Lent) -> Tally
-    ensures { t.wrong ≤ result.wrong }
+fn try_events(trial: &mut Trial, call: Call, a: usize, b: usize, l: Lent)
+    ensures { trial.old.tally.wrong ≤ trial.new.tally.wrong }
 {
-    if c.which == ASK {
-        let asked = call_of(ASK, a, b, c.budget);
-        return try_lent(t, log, asked, file, b"", b"", l);
+    match call {
+        Call::Ask { file, budget, .. } => try_lent(trial, Call::Ask { file, a, b, budget }, l),
+        Call::Reversed { file, .. } if a <= b => {
+            let sum = (a % 65536 + b % 65536) as u32;
+            let reversed = Call::Reversed {
+                file,
+                chosen: a,
+                other: b,
+            };
+            try_pair(trial, file, a, b);
+            try_way(trial, reversed, l, sum % WAYS);
+        }
+        _ => {}
     }
-    if b < a {
-        return t;
-    }
-    let sum = (a % 65536 + b % 65536) as u32;
-    let sized = shown::try_pair(t, log, file, a, b);
-    try_way(
-        sized,
-        log,
-        call_of(REVERSED, a, b, 0),
-        file,
-        b"",
-        l,
-        sum % WAYS,
-    )
 }
 
 // All pairs of events, with events past the last one.
-pub fn try_pairs(t: Tally, log: &mut Log, c: Call, file: &[u8], l: Lent) -> Tally
-    ensures { t.wrong ≤ result.wrong }
+pub fn try_pairs(trial: &mut Trial, call: Call, l: Lent)
+    ensures { trial.old.tally.wrong ≤ trial.new.tally.wrong }
 {
-    let most = second::read(file).events % 65534 + 2;
-    let mut next = t;
+    let (file, _) = call.files();
+    let most = second::trailer(file).unwrap_or_default().events % 65534 + 2;
     for i in 0..product(most, most) {
-        next = try_events(next, log, c, file, i / most as usize, i % most as usize, l);
+        try_events(trial, call, i / most as usize, i % most as usize, l);
     }
-    next
 }
 
 // The question about all pairs of events, with so many work numbers.
-pub fn try_questions(t: Tally, log: &mut Log, file: &[u8], budget: u32, letters: &[u8]) -> Tally
-    ensures { t.wrong ≤ result.wrong }
+pub fn try_questions(trial: &mut Trial, file: &[u8], budget: u32, letters: &[u8])
+    ensures { trial.old.tally.wrong ≤ trial.new.tally.wrong }
 {
-    let c = call_of(ASK, 0, 0, budget);
-    try_pairs(t, log, c, file, sized(call::needed(c, file, b""), letters))
+    let call = Call::Ask {
+        file,
+        a: 0,
+        b: 0,
+        budget,
+    };
+    try_pairs(trial, call, needed(call).sized(sizes_in(letters)));
 }
 
 // ---- reading
 
 // An accepted file with start 0, written again, has its bytes.
 fn rewriting_agrees(file: &[u8]) -> bool {
-    let r = second::read(file);
-    if r.refusal != 0 || r.start != 0 {
+    let Ok(r) = second::read(file) else {
+        return true;
+    };
+    if r.start != 0 {
         return true;
     }
     let mut out = [0u8; 8192];
-    let mut none = [0u16; 1];
-    let mut other = [0u16; 1];
-    let mut list = [0u16; 1];
-    let told = call::ours(
-        call::writing(reading::counts_of(r)),
-        recording::records(file),
-        recording::starts(file),
-        recording::posts(file),
-        &mut none,
-        &mut other,
-        &mut list,
-        &mut out,
-    );
-    told.refusal == 0 && same_bytes(part_of(&out, 0, told.length), file)
+    let write = Call::Write {
+        parts: parts_of(file),
+        counts: counts_of(r),
+    };
+    match ours(write, &mut [], &mut [], &mut [], &mut out) {
+        Ok(Answer::Length(n)) => part_of(&out, 0, n) == file,
+        _ => false,
+    }
 }
 
 // Reading a file, and writing it again.
-pub fn try_reading(t: Tally, log: &mut Log, file: &[u8]) -> Tally
-    ensures { t.wrong ≤ result.wrong }
+pub fn try_reading(trial: &mut Trial, file: &[u8])
+    ensures { trial.old.tally.wrong ≤ trial.new.tally.wrong }
 {
-    let read = count(t, log, reading::reading_agrees(file), file);
-    count(read, log, rewriting_agrees(file), file)
+    trial.count(reading_agrees(file), file);
+    trial.count(rewriting_agrees(file), file);
 }

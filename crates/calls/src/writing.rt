@@ -3,16 +3,45 @@
 // edition; with a post byte less and one more; and with a post count of 0.
 ghost use Rattle.std.specs.Prelude.{◌≡◌, ◌≤◌};
 
-use crate::call;
-use crate::call::{Lent, size_of, sized_by};
+use crate::call::{Call, Lent, Size};
 use crate::reading::counts_of;
 use crate::tries::try_lent;
-use model::Counts;
 use rows::bytes::part_of;
-use rows::log::Log;
-use rows::tally::Tally;
+use rows::tally::Trial;
+use second::{Counts, Parts};
 
-const WAYS: u32 = 13;
+#[derive(Clone, Copy)]
+enum Way {
+    Out(Size),
+    NoLevels,
+    CutRecord,
+    Starts(Size),
+    OtherEdition,
+    Posts(Size),
+    ZeroPost,
+}
+
+const WAYS: [Way; 13] = [
+    Way::Out(Size::Needed),
+    Way::Out(Size::Ample),
+    Way::NoLevels,
+    Way::Out(Size::Less),
+    Way::Out(Size::More),
+    Way::Out(Size::Nothing),
+    Way::CutRecord,
+    Way::Starts(Size::Less),
+    Way::Starts(Size::More),
+    Way::OtherEdition,
+    Way::Posts(Size::Less),
+    Way::Posts(Size::More),
+    Way::ZeroPost,
+];
+
+// Post bytes of which the last is 0.
+const LAST_ZERO: [u8; 64] = [
+    1, 1, 1, 1, 1, 1, 1, 1, 1, 1, 1, 1, 1, 1, 1, 1, 1, 1, 1, 1, 1, 1, 1, 1, 1, 1, 1, 1, 1, 1, 1, 1,
+    1, 1, 1, 1, 1, 1, 1, 1, 1, 1, 1, 1, 1, 1, 1, 1, 1, 1, 1, 1, 1, 1, 1, 1, 1, 1, 1, 1, 1, 1, 1, 0,
+];
 
 // An output of so many bytes, and nothing else.
 pub fn output(n: usize) -> Lent
@@ -26,123 +55,128 @@ pub fn output(n: usize) -> Lent
     }
 }
 
-// A number with one less in the one way, and one more in the next.
-fn lent(n: usize, way: u32, less: u32) -> usize {
-    if way == less {
-        return size_of(n, b'-');
-    }
-    if less < way && way - less == 1 {
-        return size_of(n, b'+');
-    }
-    n
-}
-
-// The output in one of the ways.
-fn room_in(records: &[u8], levels: &[u8], way: u32) -> Lent {
-    if way == 2 {
-        return output(call::length_of(records, b"", b""));
-    }
-    let whole = output(call::length_of(records, levels, b""));
-    sized_by(whole, if way < 6 { way } else { 1 })
-}
-
-// The post bytes in one of the ways: those from n to an end, or in the last way as many, or one, of
-// which the last is 0.
-fn posts_in<'a>(levels: &'a [u8], zeros: &'a [u8], n: usize, end: usize, way: u32) -> &'a [u8] {
-    let posts = part_of(levels, n, end).len();
-    if way != 12 {
-        return part_of(levels, n, lent(end, way, 10));
-    }
-    if posts == 0 {
-        return part_of(zeros, 63, 64);
-    }
-    part_of(zeros, 64 - posts % 65, 64)
-}
-
-// Writing in one of the ways. The start bytes are the first n of those that are lent here, and the post
-// bytes the next, up to an end.
-fn try_parts(
-    t: Tally,
-    log: &mut Log,
-    records: &[u8],
-    c: Counts,
-    levels: &[u8],
+// What a file holds: its records, its counts, and its level bytes with those behind them; the start bytes are
+// the first n of them, and the post bytes the next, up to an end.
+#[derive(Clone, Copy)]
+struct Held<'a> {
+    records: &'a [u8],
+    counts: Counts,
+    levels: &'a [u8],
     n: usize,
     end: usize,
-    way: u32,
-) -> Tally
-    ensures { t.wrong ≤ result.wrong }
-{
-    let mut zeros = [1u8; 64];
-    zeros[63] = 0;
-    let posts = posts_in(levels, &zeros, n, end, way);
-    let size = records.len();
-    let cut = if way == 6 { size_of(size, b'-') } else { size };
-    let mut counts = c;
-    counts.edition = if way == 9 {
-        c.edition % 3 + 1
-    } else {
-        c.edition
-    };
-    try_lent(
-        t,
-        log,
-        call::writing(counts),
-        part_of(records, 0, cut),
-        part_of(levels, 0, lent(n, way, 7)),
-        posts,
-        room_in(records, part_of(levels, 0, end), way),
-    )
 }
 
-// Writing what a file holds; where its trailer is refused, all of it but the trailer, with counts of a
-// small recording.
-pub(crate) fn try_writing_way(t: Tally, log: &mut Log, file: &[u8], way: u32) -> Tally
-    ensures { t.wrong ≤ result.wrong }
-{
-    let r = second::read(file);
-    let start = r.start % 4294967296;
-    let end = start + r.events as usize * 4;
-    let n = r.starts as usize;
-    if r.tasks != 0 {
-        return try_parts(
-            t,
-            log,
-            part_of(file, start, end),
-            counts_of(r),
-            part_of(file, end, file.len()),
-            n,
-            n + r.flags as usize,
-            way,
-        );
+impl<'a> Held<'a> {
+    // What an accepted file holds; where its trailer is refused, all of it but the trailer, with counts of a
+    // small recording.
+    fn by(file: &'a [u8]) -> Held<'a> {
+        let Ok(r) = second::trailer(file) else {
+            let cut = file.len().saturating_sub(16);
+            return Held {
+                records: part_of(file, 0, cut),
+                counts: Counts {
+                    tasks: 4,
+                    semaphores: 2,
+                    cells: 3,
+                    edition: 1,
+                },
+                levels: part_of(file, cut, file.len()),
+                n: 0,
+                end: 0,
+            };
+        };
+        let start = r.start % 4294967296;
+        let end = start + r.events as usize * 4;
+        Held {
+            records: part_of(file, start, end),
+            counts: counts_of(r),
+            levels: part_of(file, end, file.len()),
+            n: r.starts as usize,
+            end: r.starts as usize + r.flags as usize,
+        }
     }
-    let c = Counts {
-        tasks: 4,
-        semaphores: 2,
-        cells: 3,
-        edition: 1,
+
+    // As many post bytes as there are, or one, of which the last is 0.
+    fn zero_posts(self) -> &'a [u8] {
+        let posts = part_of(self.levels, self.n, self.end).len().max(1);
+        part_of(&LAST_ZERO, 64 - posts % 65, 64)
+    }
+
+    // What is written in one of the ways.
+    fn parts(self, way: Way) -> Parts<'a> {
+        let parts = Parts {
+            records: self.records,
+            starts: part_of(self.levels, 0, self.n),
+            posts: part_of(self.levels, self.n, self.end),
+        };
+        match way {
+            Way::CutRecord => Parts {
+                records: part_of(self.records, 0, self.records.len().saturating_sub(1)),
+                ..parts
+            },
+            Way::Starts(size) => Parts {
+                starts: part_of(self.levels, 0, size.of(self.n)),
+                ..parts
+            },
+            Way::Posts(size) => Parts {
+                posts: part_of(self.levels, self.n, size.of(self.end)),
+                ..parts
+            },
+            Way::ZeroPost => Parts {
+                posts: self.zero_posts(),
+                ..parts
+            },
+            Way::Out(_) | Way::NoLevels | Way::OtherEdition => parts,
+        }
+    }
+
+    // The counts in one of the ways.
+    fn counts(self, way: Way) -> Counts {
+        let counts = self.counts;
+        match way {
+            Way::OtherEdition => Counts {
+                edition: counts.edition % 3 + 1,
+                ..counts
+            },
+            _ => counts,
+        }
+    }
+
+    // The output in one of the ways.
+    fn out(self, way: Way) -> Lent {
+        let all = part_of(self.levels, 0, self.end).len();
+        let bare = self.records.len().wrapping_add(16);
+        let whole = bare.wrapping_add(all);
+        output(match way {
+            Way::NoLevels => bare,
+            Way::Out(size) => size.of(whole),
+            _ => Size::Ample.of(whole),
+        })
+    }
+}
+
+fn try_held(trial: &mut Trial, held: Held, way: Way)
+    ensures { trial.old.tally.wrong ≤ trial.new.tally.wrong }
+{
+    let call = Call::Write {
+        parts: held.parts(way),
+        counts: held.counts(way),
     };
-    let all = file.len();
-    let cut = if all < 16 { 0 } else { all - 16 };
-    try_parts(
-        t,
-        log,
-        part_of(file, 0, cut),
-        c,
-        part_of(file, cut, all),
-        0,
-        0,
-        way,
-    )
+    try_lent(trial, call, held.out(way));
+}
+
+// Writing what a file holds in one of the ways.
+pub(crate) fn try_writing_way(trial: &mut Trial, file: &[u8], way: u32)
+    ensures { trial.old.tally.wrong ≤ trial.new.tally.wrong }
+{
+    try_held(trial, Held::by(file), WAYS[(way % 13) as usize]);
 }
 
 // Writing in each of the ways.
-pub fn try_writing(t: Tally, log: &mut Log, file: &[u8]) -> Tally
-    ensures { t.wrong ≤ result.wrong }
+pub fn try_writing(trial: &mut Trial, file: &[u8])
+    ensures { trial.old.tally.wrong ≤ trial.new.tally.wrong }
 {
-    let mut next = t;
-    for way in 0..WAYS {
-        next = try_writing_way(next, log, file, way);
+    for way in WAYS {
+        try_held(trial, Held::by(file), way);
     }
-    next
 }

@@ -1,210 +1,190 @@
 // Jobs from fixed seeds, recorded twice: a recording, and one with its records in another order that
 // reading accepts, with another preamble or in another edition; some of them changed.
-use calls::call::{TOGETHER, WAYS, analysing, call_of, list_of, needed};
+use calls::call::{Call, WAYS, list_of, needed, their_answer};
+use calls::told::Told;
 use calls::tries::{ENDLESS, try_way, try_ways};
-use model::Reading;
-use rows::bytes::{at_least_one, byte, first_bytes, number, part_of, put_byte, put_bytes};
-use rows::log::Log;
-use rows::make::{damage, damage_byte, draw, draw_from, draw_word, kinds_in, make};
-use rows::records::{Draft, Shape, mark_preamble, place, put_record, put_trailer};
-use rows::tally::{Tally, count_both};
-use second::Told;
-use std::num::{wrapping_add_u32, wrapping_add_usize};
+use rows::bytes::{Bytes, at, at_least_one, part_of, put};
+use rows::make::{Seed, damage, damage_byte, kinds_in, make};
+use rows::records::{Kind, Record, Shape, place, put_preamble, put_record, put_trailer};
+use rows::tally::{Met, Trial};
+use second::Fault;
 
 // ---- another order
 
 // Changes the record at i with the next.
 fn swap_records(file: &mut [u8], i: usize) {
-    for k in 0..4usize {
-        let a = byte(file, wrapping_add_usize(i, k));
-        let b = byte(file, wrapping_add_usize(i, k + 4));
-        put_byte(file, wrapping_add_usize(i, k), b);
-        put_byte(file, wrapping_add_usize(i, k + 4), a);
-    }
-}
-
-fn is_accepted(file: &[u8]) -> bool {
-    match recording::read(file) {
-        Reading::Accepted(_) => true,
-        Reading::Refused(_) => false,
+    if let Some(both) = file.get_mut(i..i.wrapping_add(8)) {
+        both.rotate_left(4);
     }
 }
 
 // Changes the record at i with the next, in one of two cases, where they are of two tasks and the file
 // is accepted then.
-fn try_swap(seed: &mut u32, file: &mut [u8], i: usize) {
-    if draw(seed, 2) == 0 {
-        return;
-    }
-    if byte(file, i) == byte(file, wrapping_add_usize(i, 4)) {
+fn try_swap(seed: &mut Seed, file: &mut [u8], i: usize) {
+    if seed.draw(2) == 0 || at(file, i) == at(file, i.wrapping_add(4)) {
         return;
     }
     swap_records(file, i);
-    if !is_accepted(file) {
+    if recording::read(file).is_err() {
         swap_records(file, i);
     }
 }
 
 // Six looks over the records but the last.
-fn shuffle(seed: &mut u32, file: &mut [u8]) {
-    let r = second::read(file);
+fn shuffle(seed: &mut Seed, file: &mut [u8]) {
+    let r = second::trailer(file).unwrap_or_default();
     let start = (r.start % 65536) as u16;
-    let n = at_least_one(r.events) - 1;
-    let m = at_least_one(n);
+    let n = r.events.saturating_sub(1);
+    let m = at_least_one(n) as u32;
     for i in 0..n as u32 * 6 {
-        try_swap(seed, file, place(start, (i % m as u32 % 65536) as u16));
+        try_swap(seed, file, place(start, (i % m % 65536) as u16));
     }
 }
 
 // ---- a second recording
 
 // A recording of the shape with these records, but for the one that starts at a place of them, if any,
-// and these level bytes; its length.
-fn put_other(file: &mut [u8], s: Shape, records: &[u8], without: usize, levels: &[u8]) -> usize {
-    let at = s.preamble as usize;
+// and these level bytes.
+fn recorded(s: Shape, records: &[u8], without: Option<usize>, levels: &[u8]) -> Bytes<4400> {
+    let mut file = Bytes::new();
     let all = records.len();
-    let cut = if without < all { without } else { all };
-    mark_preamble(file, at);
-    let kept = put_bytes(file, at, part_of(records, 0, cut));
-    let end = put_bytes(
-        file,
-        kept,
-        part_of(records, wrapping_add_usize(cut, 4), all),
-    );
-    let trailer = put_bytes(file, end, levels);
-    let n = if at <= end { (end - at) / 4 } else { 0 };
-    put_trailer(file, trailer, s.preamble as u32, (n % 65536) as u32, s)
+    let cut = without.unwrap_or(all).min(all);
+    put_preamble(&mut file, s.preamble);
+    file.extend(part_of(records, 0, cut));
+    file.extend(part_of(records, cut.wrapping_add(4), all));
+    let n = file.length.saturating_sub(s.preamble as usize) / 4;
+    file.extend(levels);
+    put_trailer(&mut file, s.preamble as u32, (n % 65536) as u32, s);
+    file
 }
 
 // Another edition in one of two cases: 2 in place of 1, and 3 with no flag in place of 2.
-fn draw_edition(seed: &mut u32, edition: u16) -> u16 {
-    if edition == 1 && draw(seed, 2) == 0 {
-        return 2;
-    }
-    if edition == 2 && draw(seed, 2) == 0 {
-        return 3;
-    }
-    edition
+fn draw_edition(seed: &mut Seed, edition: u16) -> u16 {
+    let other = match edition {
+        1 => 2,
+        2 => 3,
+        _ => return edition,
+    };
+    if seed.draw(2) == 0 { other } else { edition }
 }
 
 // A second recording of the work of file one, which has shape s: another preamble, and another edition
-// in one of two cases, with start counts of 0 where file one has none; its length.
-fn put_second(seed: &mut u32, one: &[u8], s: Shape, without: usize, file: &mut [u8]) -> usize {
+// in one of two cases, with start counts of 0 where file one has none.
+fn draw_second(seed: &mut Seed, one: &[u8], s: Shape, without: Option<usize>) -> Bytes<4400> {
     let zeros = [0u8; 64];
-    let mut z = s;
-    z.edition = draw_edition(seed, s.edition);
-    z.preamble = draw_word(seed, 9);
+    let edition = draw_edition(seed, s.edition);
+    let preamble = seed.draw_word(9);
+    let z = Shape {
+        edition,
+        preamble,
+        ..s
+    };
     let records = recording::records(one);
     let end = place(s.preamble, (records.len() / 4 % 65536) as u16);
-    let size = one.len();
-    let levels = part_of(one, end, if size < 16 { 0 } else { size - 16 });
-    if s.edition == 1 {
-        let n = if z.edition == 2 { s.semaphores } else { 0 };
-        return put_other(file, z, records, without, part_of(&zeros, 0, n as usize));
-    }
-    put_other(file, z, records, without, levels)
-}
-
-// How long two files are.
-#[derive(Clone, Copy)]
-struct Lengths {
-    one: usize,
-    two: usize,
+    let levels = match (s.edition, edition) {
+        (1, 2) => part_of(&zeros, 0, s.semaphores as usize),
+        (1, _) => b"",
+        _ => part_of(one, end, one.len().saturating_sub(16)),
+    };
+    recorded(z, records, without, levels)
 }
 
 // A recording of the shape, and a second one of its work, but for a record if any, in another order.
-fn put_both(seed: &mut u32, s: Shape, without: usize, a: &mut [u8], b: &mut [u8]) -> Lengths {
-    let one = make(seed, s, a);
-    let two = put_second(seed, part_of(a, 0, one), s, without, b);
-    shuffle(seed, first_bytes(b, two));
-    Lengths { one, two }
+fn draw_both(seed: &mut Seed, s: Shape, without: Option<usize>) -> (Bytes<4400>, Bytes<4400>) {
+    let one: Bytes<4400> = make(seed, s);
+    let mut two = draw_second(seed, one.written(), s, without);
+    shuffle(seed, two.room());
+    (one, two)
 }
 
 // ---- recordings of the same work
 
-// Each pair of the one list is sure exactly where the list of one of the files has it so; and how many
-// pairs one of the lists alone has as sure, or none where that fails.
-#[derive(Clone, Copy)]
-struct Marks {
-    agree: bool,
-    one_sided: u32,
+// Each pair of the one list is sure exactly where the list of one of the files has it so.
+fn same_marks(a: &[u16], b: &[u16], both: &[u16], pairs: usize) -> bool {
+    let lists = a.chunks_exact(3).zip(b.chunks_exact(3));
+    lists.zip(both.chunks_exact(5)).take(pairs).all(|((x, y), joint)| {
+        (at(joint, 4) == 1) == (at(x, 2) == 1 || at(y, 2) == 1)
+    })
 }
 
-fn compare_marks(a: &[u16], b: &[u16], both: &[u16], pairs: u32) -> Marks {
-    let mut m = Marks {
-        agree: true,
-        one_sided: 0,
-    };
-    for i in 0..pairs {
-        let x = number(a, i as usize * 3 + 2);
-        let y = number(b, i as usize * 3 + 2);
-        if (number(both, i as usize * 5 + 4) == 1) != (x == 1 || y == 1) {
-            m.agree = false;
-        }
-        if x != y {
-            m.one_sided = wrapping_add_u32(m.one_sided, 1);
-        }
-    }
-    m
+// How many pairs one of the lists alone has as sure.
+fn one_sided(a: &[u16], b: &[u16], pairs: usize) -> usize {
+    let lists = a.chunks_exact(3).zip(b.chunks_exact(3)).take(pairs);
+    lists.filter(|(x, y)| at(x, 2) != at(y, 2)).count()
 }
 
 // The library's one list has as many pairs as its list of each file, and their marks; those that one
 // file alone makes sure are met.
-fn try_marks(t: Tally, log: &mut Log, one: &[u8], two: &[u8]) -> Tally {
+fn try_marks(trial: &mut Trial, one: &[u8], two: &[u8]) {
     let mut a = [0u16; 24576];
     let mut b = [0u16; 24576];
     let mut both = [0u16; 40960];
-    let c = analysing(ENDLESS);
-    let found = list_of(c, one, b"", &mut a);
-    let other = list_of(c, two, b"", &mut b);
-    let joint = list_of(call_of(TOGETHER, 0, 0, 0), one, two, &mut both);
-    let m = compare_marks(&a, &b, &both, if found < 8193 { found } else { 0 });
-    let mut next = count_both(
-        t,
-        log,
-        found == joint && other == joint && m.agree,
-        one,
-        two,
+    let budget = ENDLESS;
+    let found = list_of(Call::Analyse { file: one, budget }, &mut a);
+    let other = list_of(Call::Analyse { file: two, budget }, &mut b);
+    let joint = list_of(Call::Together { one, two }, &mut both);
+    let pairs = if found < 8193 { found as usize } else { 0 };
+    let agree = found == joint && other == joint && same_marks(&a, &b, &both, pairs);
+    trial.count_both(agree, one, two);
+    trial.meet(
+        Met::OneSided,
+        (one_sided(&a, &b, pairs) % 4294967296) as u32,
     );
-    next.one_sided = wrapping_add_u32(t.one_sided, m.one_sided);
-    next
 }
 
 // What the second analyser answers with enough work numbers and no list.
 fn unlisted(one: &[u8], two: &[u8]) -> Told {
-    let mut work = [0u16; 32768];
-    let mut other = [0u16; 32768];
-    let mut list = [0u16; 1];
-    second::together(one, two, &mut work, &mut other, &mut list)
+    their_answer(Call::Together { one, two }, &mut [0; 1], &mut [0; 1])
 }
 
 // Two recordings of the same work: accepted so, with all sizes or one of them, and the marks.
-fn try_alike(t: Tally, log: &mut Log, one: &[u8], two: &[u8], all: bool, way: u32) -> Tally {
-    let c = call_of(TOGETHER, 0, 0, 0);
-    let o = unlisted(one, two);
-    let held = count_both(t, log, o.refusal == 0 || o.refusal == 10, one, two);
+fn try_alike(trial: &mut Trial, one: &[u8], two: &[u8], all: bool, way: u32) {
+    let call = Call::Together { one, two };
+    let accepted = matches!(unlisted(one, two), Ok(_) | Err(Fault::List { .. }));
+    trial.count_both(accepted, one, two);
     if all {
-        return try_marks(try_ways(held, log, c, one, two, WAYS), log, one, two);
+        try_ways(trial, call, WAYS);
+    } else {
+        try_way(trial, call, needed(call), way);
     }
-    let need = needed(c, one, two);
-    try_marks(try_way(held, log, c, one, two, need, way), log, one, two)
+    try_marks(trial, one, two);
 }
 
 // A job recorded twice, the one or the other first.
-pub(crate) fn try_shuffled(t: Tally, log: &mut Log, seed: &mut u32, s: Shape, all: bool) -> Tally {
-    let mut a = [0u8; 4400];
-    let mut b = [0u8; 4400];
-    let l = put_both(seed, s, 65535, &mut a, &mut b);
-    let one = part_of(&a, 0, l.one);
-    let two = part_of(&b, 0, l.two);
-    let way = draw(seed, WAYS);
-    if draw(seed, 2) == 0 {
-        return try_alike(t, log, one, two, all, way);
+pub(crate) fn try_shuffled(trial: &mut Trial, seed: &mut Seed, s: Shape, all: bool) {
+    let (one, two) = draw_both(seed, s, None);
+    let way = seed.draw(WAYS);
+    if seed.draw(2) == 0 {
+        return try_alike(trial, one.written(), two.written(), all, way);
     }
-    try_alike(t, log, two, one, all, way)
+    try_alike(trial, two.written(), one.written(), all, way);
 }
 
 // ---- recordings that are changed
+
+// What is done with the second recording, and with the first where both are damaged.
+#[derive(Clone, Copy)]
+enum Change {
+    Record,
+    Tasks,
+    Level,
+    Count,
+    Lacking,
+    Nothing,
+    Damaged,
+    BothDamaged,
+}
+
+const CHANGES: [Change; 8] = [
+    Change::Record,
+    Change::Tasks,
+    Change::Level,
+    Change::Count,
+    Change::Lacking,
+    Change::Nothing,
+    Change::Damaged,
+    Change::BothDamaged,
+];
 
 fn renamed(task: u8, a: u8, b: u8) -> u8 {
     if task == a {
@@ -215,13 +195,10 @@ fn renamed(task: u8, a: u8, b: u8) -> u8 {
 
 // The record at i with tasks a and b changed for each other, also where a fork or a join names one.
 fn rename_record(file: &mut [u8], i: usize, a: u8, b: u8) {
-    let kind = byte(file, wrapping_add_usize(i, 1));
-    let task = byte(file, i);
-    put_byte(file, i, renamed(task, a, b));
-    if kind == 3 || kind == 4 {
-        let at = wrapping_add_usize(i, 2);
-        let object = byte(file, at);
-        put_byte(file, at, renamed(object, a, b));
+    let object = i.wrapping_add(2);
+    put(file, i, renamed(at(file, i), a, b));
+    if let Some(Kind::Fork | Kind::Join) = Kind::numbered(at(file, i.wrapping_add(1))) {
+        put(file, object, renamed(at(file, object), a, b));
     }
 }
 
@@ -232,67 +209,59 @@ fn rename_tasks(file: &mut [u8], start: u16, n: u16, a: u8, b: u8) {
 }
 
 // The record at a place, of the same task, with another kind and object.
-fn change_record(seed: &mut u32, file: &mut [u8], i: usize, edition: u16) {
-    let d = Draft {
-        task: byte(file, i) as u16,
-        kind: draw_from(seed, 1, kinds_in(edition)),
-        object: draw_word(seed, 3),
+fn change_record(seed: &mut Seed, file: &mut [u8], i: usize, edition: u16) {
+    let record = Record {
+        task: at(file, i),
+        kind: (seed.draw_from(1, kinds_in(edition)) % 256) as u8,
+        object: seed.draw_word(3),
     };
-    put_record(file, i, d);
+    put_record(file, i, record);
 }
 
-// Another record, two tasks for each other, another start count or post count, or another count;
-// nothing where another way is asked.
-fn change(seed: &mut u32, file: &mut [u8], what: u32) {
-    let r = second::read(file);
+// Another record, two tasks for each other, another start count or post count, or another count.
+fn alter(seed: &mut Seed, file: &mut [u8], what: Change) {
+    let r = second::trailer(file).unwrap_or_default();
     let start = (r.start % 65536) as u16;
-    let value = (draw(seed, 16) % 16) as u8;
-    let back = draw(seed, 3) % 3;
-    let e = draw_word(seed, r.events);
-    let length = file.len();
+    let value = seed.draw(16) as u8;
+    let back = seed.draw(3);
+    let e = seed.draw_word(r.events);
     match what {
-        0 => change_record(seed, file, place(start, e), r.edition),
-        1 => rename_tasks(file, start, r.events, value % 3, value / 4),
-        2 => damage_byte(file, length, 16 + back, value % 4),
-        _ => damage_byte(file, length, 3 + back * 2, value),
-    }
-}
-
-// The first bytes of a file changed in one of the four ways, where one is asked.
-fn change_part(seed: &mut u32, file: &mut [u8], length: usize, what: u32) {
-    if what < 4 {
-        change(seed, first_bytes(file, length), what);
+        Change::Record => change_record(seed, file, place(start, e), r.edition),
+        Change::Tasks => rename_tasks(file, start, r.events, value % 3, value / 4),
+        Change::Level => damage_byte(file, 16 + back, value % 4),
+        _ => damage_byte(file, 3 + back * 2, value),
     }
 }
 
 // Two files, both ways round; a difference at a position is met.
-fn try_unlike(t: Tally, log: &mut Log, one: &[u8], two: &[u8], way: u32) -> Tally {
-    let c = call_of(TOGETHER, 0, 0, 0);
-    let there = try_way(t, log, c, one, two, needed(c, one, two), way);
-    let mut back = try_way(there, log, c, two, one, needed(c, two, one), way);
-    if unlisted(one, two).position != 0 {
-        back.differing = wrapping_add_u32(t.differing, 1);
+fn try_unlike(trial: &mut Trial, one: &[u8], two: &[u8], way: u32) {
+    let there = Call::Together { one, two };
+    let back = Call::Together { one: two, two: one };
+    try_way(trial, there, needed(there), way);
+    try_way(trial, back, needed(back), way);
+    match unlisted(one, two) {
+        Err(Fault::Differ { position, .. }) if position != 0 => trial.meet(Met::Differing, 1),
+        _ => {}
     }
-    back
 }
 
 // Two recordings of which one is changed, lacks a record or is damaged, or both are damaged.
-pub(crate) fn try_altered(t: Tally, log: &mut Log, seed: &mut u32, s: Shape) -> Tally {
-    let mut a = [0u8; 4400];
-    let mut b = [0u8; 4400];
-    let what = draw(seed, 8);
-    let gone = place(0, draw_word(seed, s.events));
-    let l = put_both(
-        seed,
-        s,
-        if what == 4 { gone } else { 65535 },
-        &mut a,
-        &mut b,
-    );
-    change_part(seed, &mut b, l.two, what);
-    let n = damage(seed, s, &mut a, l.one, what == 7);
-    let m = damage(seed, s, &mut b, l.two, 5 < what);
-    let one = part_of(&a, 0, n);
-    let two = part_of(&b, 0, m);
-    try_unlike(t, log, one, two, draw(seed, WAYS))
+pub(crate) fn try_altered(trial: &mut Trial, seed: &mut Seed, s: Shape) {
+    let what = CHANGES[seed.draw(8) as usize];
+    let gone = place(0, seed.draw_word(s.events));
+    let without = match what {
+        Change::Lacking => Some(gone),
+        _ => None,
+    };
+    let (mut one, mut two) = draw_both(seed, s, without);
+    match what {
+        Change::Lacking | Change::Nothing => {}
+        Change::Damaged => damage(seed, s, &mut two),
+        Change::BothDamaged => {
+            damage(seed, s, &mut one);
+            damage(seed, s, &mut two);
+        }
+        _ => alter(seed, two.room(), what),
+    }
+    try_unlike(trial, one.written(), two.written(), seed.draw(WAYS));
 }

@@ -1,26 +1,28 @@
 // Two stretches of work compared: all that a small recording has, with such as it lacks, and some from a
 // seed.
 use crate::groups::draw_budget;
-use calls::call::{Call, Lent, STRETCHES, WAYS, call_of, comparing, needed};
+use calls::call::{Call, Lent, WAYS, needed};
 use calls::tries::try_way;
-use rows::bytes::{at_least_one, number, product};
-use rows::log::Log;
-use rows::make::{draw, draw_from};
-use rows::records::name_events;
-use rows::tally::Tally;
+use rows::bytes::{at, at_least_one, part_of, product};
+use rows::make::Seed;
+use rows::records::{Name, name_events};
+use rows::tally::Trial;
 use second::{Reading, Stretch};
-use std::num::{wrapping_add_u16, wrapping_sub_u16};
+
+// A recording with its events' names, what its trailer says, and what comparing two of its stretches needs.
+#[derive(Clone, Copy)]
+struct Recording<'a> {
+    file: &'a [u8],
+    names: &'a [Name],
+    r: Reading,
+    need: Lent,
+}
 
 // ---- all stretches
 
 // The most events that a task has.
-fn most_own(names: &[u16], n: u16) -> u16 {
-    let mut most = 0;
-    for e in 0..n {
-        let position = number(names, e as usize) % 2048;
-        most = if most < position { position } else { most };
-    }
-    most
+fn most_own(names: &[Name]) -> u16 {
+    names.iter().map(|name| name.position).max().unwrap_or(0)
 }
 
 // Stretch i of those that have positions below so many.
@@ -33,137 +35,125 @@ fn stretch_of(i: u16, ends: u16) -> Stretch {
     }
 }
 
-// Pair i of so many stretches.
-fn pair_of(i: usize, all: u16, ends: u16, budget: u32) -> Call {
-    let n = at_least_one(all) as usize;
-    let one = stretch_of((i / n % 65536) as u16, ends);
-    let other = stretch_of((i % n % 65536) as u16, ends);
-    comparing(one, other, budget)
-}
-
 // How many stretches so many tasks and one more have with positions below so many.
 fn count_of(tasks: u16, ends: u16) -> u16 {
     let each = (product(ends, ends) % 65536) as u16;
     (product(each, tasks % 16 + 1) % 65536) as u16
 }
 
-// All pairs of so many stretches.
-fn try_all(
-    t: Tally,
-    log: &mut Log,
-    file: &[u8],
-    all: u16,
-    ends: u16,
-    budget: u32,
-    need: Lent,
-) -> Tally {
-    let mut next = t;
+// All pairs of the stretches that have positions below so many.
+fn try_all(trial: &mut Trial, recording: Recording, ends: u16, budget: u32) {
+    let all = count_of(recording.r.tasks, ends);
+    let n = at_least_one(all) as usize;
     for i in 0..product(all, all) {
-        next = try_way(next, log, pair_of(i, all, ends, budget), file, b"", need, 0);
+        let call = Call::Compare {
+            file: recording.file,
+            one: stretch_of((i / n % 65536) as u16, ends),
+            other: stretch_of((i % n % 65536) as u16, ends),
+            budget,
+        };
+        try_way(trial, call, recording.need, 0);
     }
-    next
 }
 
 // ---- some stretches
 
 // How many events a task has: the position of its last one.
-fn count_own(records: &[u8], names: &[u16], task: u16) -> u16 {
-    let last = second::last_event(records, task);
-    if last.found {
-        number(names, last.record) % 2048
-    } else {
-        0
+fn count_own(recording: Recording, task: u16) -> u16 {
+    let records = recording::records(recording.file);
+    match second::last_event(records, task).last {
+        Some(e) => at(recording.names, e).position,
+        None => 0,
     }
 }
 
 // In one of eight cases a number of the stretch, whose task has so many events, is put at an edge.
-fn draw_edge(seed: &mut u32, s: Stretch, tasks: u16, own: u16) -> Stretch {
-    let mut edge = s;
-    match draw(seed, 56) {
-        0 => edge.task = tasks,
-        1 => edge.task = wrapping_add_u16(s.task, 256),
-        2 => edge.first = 0,
-        3 => edge.first = wrapping_add_u16(s.last, 1),
-        4 => edge.last = wrapping_add_u16(own, 1),
-        5 => edge.last = 65535,
-        6 => edge.last = own,
-        _ => edge.last = s.last,
+fn draw_edge(seed: &mut Seed, s: Stretch, tasks: u16, own: u16) -> Stretch {
+    let Stretch { task, first, last } = s;
+    match seed.draw(56) {
+        0 => Stretch { task: tasks, ..s },
+        1 => Stretch {
+            task: task.wrapping_add(256),
+            ..s
+        },
+        2 => Stretch { first: 0, ..s },
+        3 => Stretch {
+            first: last.wrapping_add(1),
+            ..s
+        },
+        4 => Stretch {
+            last: own.wrapping_add(1),
+            ..s
+        },
+        5 => Stretch { last: 65535, ..s },
+        6 => Stretch { last: own, ..s },
+        _ => Stretch { task, first, last },
     }
-    edge
 }
 
 // A stretch of the task of one of the events, or nearly; one of two is a single event.
-fn draw_stretch(seed: &mut u32, records: &[u8], names: &[u16], r: Reading) -> Stretch {
-    let task = number(names, draw(seed, r.events as u32) as usize) / 2048;
-    let own = count_own(records, names, task);
-    let first = draw_from(seed, 1, own);
-    let more = wrapping_sub_u16(wrapping_add_u16(own, 1), first);
-    let single = draw(seed, 2) == 0;
-    let last = draw_from(seed, first, if single { 0 } else { more });
+fn draw_stretch(seed: &mut Seed, recording: Recording) -> Stretch {
+    let r = recording.r;
+    let task = at(recording.names, seed.draw(r.events as u32) as usize).task;
+    let own = count_own(recording, task);
+    let first = seed.draw_from(1, own);
+    let more = own.wrapping_add(1).wrapping_sub(first);
+    let single = seed.draw(2) == 0;
+    let last = seed.draw_from(first, if single { 0 } else { more });
     draw_edge(seed, Stretch { task, first, last }, r.tasks, own)
 }
 
 // Two stretches, both ways round: with one of the sizes, and with the size that is needed.
-fn try_drawn(
-    t: Tally,
-    log: &mut Log,
-    seed: &mut u32,
-    file: &[u8],
-    names: &[u16],
-    r: Reading,
-    need: Lent,
-) -> Tally {
-    let records = recording::records(file);
-    let one = draw_stretch(seed, records, names, r);
-    let other = draw_stretch(seed, records, names, r);
-    let budget = draw_budget(seed, r.events);
-    let way = draw(seed, WAYS);
-    let there = try_way(t, log, comparing(one, other, budget), file, b"", need, way);
-    try_way(
-        there,
-        log,
-        comparing(other, one, budget),
+fn try_drawn(trial: &mut Trial, seed: &mut Seed, recording: Recording) {
+    let file = recording.file;
+    let one = draw_stretch(seed, recording);
+    let other = draw_stretch(seed, recording);
+    let budget = draw_budget(seed, recording.r.events);
+    let there = Call::Compare {
         file,
-        b"",
-        need,
-        0,
-    )
-}
-
-fn try_some(
-    t: Tally,
-    log: &mut Log,
-    seed: &mut u32,
-    file: &[u8],
-    names: &[u16],
-    r: Reading,
-    need: Lent,
-    pairs: u32,
-) -> Tally {
-    let mut next = t;
-    for i in 0..pairs {
-        next = try_drawn(next, log, seed, file, names, r, need);
-    }
-    next
+        one,
+        other,
+        budget,
+    };
+    let back = Call::Compare {
+        file,
+        one: other,
+        other: one,
+        budget,
+    };
+    try_way(trial, there, recording.need, seed.draw(WAYS));
+    try_way(trial, back, recording.need, 0);
 }
 
 // So many pairs of stretches of a recording; or all, of the tasks and of one more, with positions from 0 to
 // one past the most.
-pub(crate) fn try_stretches(
-    t: Tally,
-    log: &mut Log,
-    seed: &mut u32,
-    file: &[u8],
-    pairs: u32,
-) -> Tally {
-    let mut names = [0u16; 1024];
+pub(crate) fn try_stretches(trial: &mut Trial, seed: &mut Seed, file: &[u8], pairs: u32) {
+    let mut names = [Name::default(); 1024];
     name_events(recording::records(file), &mut names);
-    let r = second::read(file);
-    let need = needed(call_of(STRETCHES, 0, 0, 0), file, b"");
-    if pairs != 0 {
-        return try_some(t, log, seed, file, &names, r, need, pairs);
+    let r = second::trailer(file).unwrap_or_default();
+    let none = Stretch {
+        task: 0,
+        first: 0,
+        last: 0,
+    };
+    let need = needed(Call::Compare {
+        file,
+        one: none,
+        other: none,
+        budget: 0,
+    });
+    let recording = Recording {
+        file,
+        names: &names,
+        r,
+        need,
+    };
+    for i in 0..pairs {
+        try_drawn(trial, seed, recording);
     }
-    let ends = most_own(&names, r.events) % 16 + 2;
-    let budget = draw_budget(seed, r.events);
-    try_all(t, log, file, count_of(r.tasks, ends), ends, budget, need)
+    if pairs == 0 {
+        let ends = most_own(part_of(&names, 0, r.events as usize)) % 16 + 2;
+        let budget = draw_budget(seed, r.events);
+        try_all(trial, recording, ends, budget);
+    }
 }

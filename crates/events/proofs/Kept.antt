@@ -1,5 +1,6 @@
 -- Laws of what is kept: one more place written, the sources, a found event as a number and back, and the forks. Assumes nothing.
-use mathlib.Core.Path.{◌≡◌, refl, sym, ap, ap₂, subst, ◌∙◌}
+use mathlib.Core.Path.{◌≡◌, refl, sym, ap, ap₂, ◌∙◌}
+use Rattle.std.specs.Prelude.{Option, Some, None}
 use mathlib.Core.Bool.{Bool, true, false, ◌&&◌}
 use mathlib.Core.List.{List, ◌++◌}
 use Prim.Native.Nat.{ℕ, zero, suc, ◌+◌, ◌*◌, ◌/◌, ◌%◌, ◌≤◌, ◌<◌, zero-le}
@@ -8,7 +9,6 @@ use lib.Dec.{ltb, eqb}
 use lib.ListN.{length, get_or, set, replicate, length-set, length-replicate, get_or-replicate, get_or-eq_default}
 use lib.Seq.{get_or-set_same, get_or-set_other}
 use Rattle.model.specs.declared.Event.{Event}
-use Rattle.model.specs.declared.Found.{Found}
 use Rattle.model.specs.Numbers.{found, last_of}
 use Rattle.model.specs.Recording.{event_in, of_task, is_fork, fork, join}
 use Rattle.model.specs.File.{events_of}
@@ -53,15 +53,15 @@ low_start m n i =
 last_below : (p : ℕ → Bool) (n : ℕ) → Below n (last_of p n)
 last_below p n = go (last_of p n) refl
   where
-    go : (m : Found) → last_of p n ≡ m → Below n m
-    go (Found.At x) q = (last_some p n x q).inside
-    go Found.Nothing q = tt
+    go : (m : Option ℕ) → last_of p n ≡ m → Below n m
+    go (Some x) q = (last_some p n x q).inside
+    go None q = tt
 
 -- found among all records
-pub all_below : (s : List ℕ) (p : ℕ → Bool) (f : Found) → f ≡ last_of p (length (events_of s)) → Below (length s / 4) f
+pub all_below : (s : List ℕ) (p : ℕ → Bool) (f : Option ℕ) → f ≡ last_of p (length (events_of s)) → Below (length s / 4) f
 all_below s p f q = rw (q, ← events_length s) (last_below p (length (events_of s)))
 
-pub fork_found : (s : List ℕ) (t : ℕ) (f : Found) → f ≡ last_of (λ a. is_fork t (event_in (events_of s) a)) (length s / 4)
+pub fork_found : (s : List ℕ) (t : ℕ) (f : Option ℕ) → f ≡ last_of (λ a. is_fork t (event_in (events_of s) a)) (length s / 4)
     → (f ≡ fork_of (events_of s) t) × Below (length s / 4) f
 fork_found s t f q =
     let all : f ≡ fork_of (events_of s) t = q ∙ rw (events_length s) in
@@ -71,7 +71,7 @@ fork_found s t f q =
 last_by : (p q : ℕ → Bool) (n : ℕ) → ((a : ℕ) → a < n → p a ≡ q a) → last_of p n ≡ last_of q n
 unfolding last_of
 last_by p q zero h = refl
-last_by p q (suc n) h = ap₂ (λ (b : Bool) (f : Found). elim b [ true ↦ Found.At n | false ↦ f ]) (h n (omega arith)) (last_by p q n (λ a l. h a (omega arith)))
+last_by p q (suc n) h = ap₂ (λ (b : Bool) (f : Option ℕ). elim b [ true ↦ Some n | false ↦ f ]) (h n (omega arith)) (last_by p q n (λ a l. h a (omega arith)))
 
 -- the event before e is found among the tasks that are kept
 pub task_searched : (l : List Event) (tasks : List ℕ) (e : ℕ) → KeptTasks l tasks → e < length l
@@ -80,21 +80,18 @@ task_searched l tasks e k h =
     last_by (λ a. eqb (get_or tasks a 0) (get_or tasks e 0)) (λ a. of_task (event_in l e).task (event_in l a)) e (λ a i. ap₂ eqb (k a (omega arith)) (k e h))
 
 -- the event before is found, or it is not
-pub before_at : (l : List Event) (e a : ℕ) (f g : Found) → f ≡ previous l e → f ≡ Found.At a → (Found.At a ≡ first_found (previous l e) g) × (a < e)
+pub before_at : (l : List Event) (e a : ℕ) (f g : Option ℕ) → f ≡ previous l e → f ≡ Some a → (Some a ≡ first_found (previous l e) g) × (a < e)
 before_at l e a f g p q =
-    let r : previous l e ≡ Found.At a = sym p ∙ q in
-    (sym (ap (λ (m : Found). first_found m g) r), (last_some (λ b. of_task (event_in l e).task (event_in l b)) e a r).inside)
+    let r : previous l e ≡ Some a = sym p ∙ q in
+    (sym (ap (λ (m : Option ℕ). first_found m g) r), (last_some (λ b. of_task (event_in l e).task (event_in l b)) e a r).inside)
 
-pub before_none : (l : List Event) (e : ℕ) (f g : Found) → f ≡ previous l e → f ≡ Found.Nothing → g ≡ first_found (previous l e) g
-before_none l e f g p q = sym (ap (λ (m : Found). first_found m g) (sym p ∙ q))
+pub before_none : (l : List Event) (e : ℕ) (f g : Option ℕ) → f ≡ previous l e → f ≡ None → g ≡ first_found (previous l e) g
+before_none l e f g p q = sym (ap (λ (m : Option ℕ). first_found m g) (sym p ∙ q))
 
 -- ---- sources
 
--- the event e, seen as v, is a join, or it is not
-module _ (l : List Event) (e : ℕ) (v : Event) (f : Found) (q : v ≡ event_in l e) where
-  pub no_join : (v.kind ≡ join → ⊥) → Found.Nothing ≡ of_join l e f
-  no_join h = rw (ne_eqb (event_in l e).kind join (λ k. h (ap (λ (w : Event). w.kind) q ∙ k)))
-
+-- the event e, seen as v, is a join
+module _ (l : List Event) (e : ℕ) (v : Event) (f : Option ℕ) (q : v ≡ event_in l e) where
   pub of_join_lem : v.kind ≡ join → f ≡ of_join l e f
   of_join_lem h = rw (eq-eqb (event_in l e).kind join (sym (ap (λ (w : Event). w.kind) q) ∙ h))
 
@@ -103,7 +100,7 @@ pub place_of : (i e j : ℕ) → i ≡ 3 * e + j → j < 3 → (i / 3 ≡ e) × 
 place_of i e j q h = (omega arith, omega arith)
 
 -- source j of e stands at its place
-pub source_at : (l : List Event) (e j i : ℕ) (f g : Found) → i ≡ 3 * e + j → j < 3 → f ≡ g → g ≡ source_of l e j → f ≡ source_of l (i / 3) (i % 3)
+pub source_at : (l : List Event) (e j i : ℕ) (f g : Option ℕ) → i ≡ 3 * e + j → j < 3 → f ≡ g → g ≡ source_of l e j → f ≡ source_of l (i / 3) (i % 3)
 source_at l e j i f g p h q r = let (a, b) = place_of i e j p h in rw (a, b) (q ∙ r)
 
 -- the sources of e are these three
@@ -113,13 +110,10 @@ three_sources l e = cases (eqb (event_in l e).kind join) (λ t. rw t) (λ t. rw 
 
 -- ---- a found event as a number
 
-pub told_below : (n a : ℕ) (f : Found) → f ≡ Found.At a → Below n f → a < n
-told_below n a f q = subst (Below n) q
-
-pub at_number : (n a : ℕ) → a < n → Found.At a ≡ found_below n a
+pub at_number : (n a : ℕ) → a < n → Some a ≡ found_below n a
 at_number n a h = rw (lt-ltb a n h)
 
-pub no_number : (n a : ℕ) → n ≤ a → Found.Nothing ≡ found_below n a
+pub no_number : (n a : ℕ) → n ≤ a → None ≡ found_below n a
 no_number n a h = rw (le-ltb a n h)
 
 -- ---- forks

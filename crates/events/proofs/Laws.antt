@@ -1,5 +1,6 @@
 -- Laws of the events that record bytes hold: how many they are, what each is, and how counts and searches over the first ones go on by one. Assumes nothing.
 use mathlib.Core.Path.{◌≡◌, sym, ap, ◌∙◌}
+use Rattle.std.specs.Prelude.{Option, Some, None}
 use mathlib.Core.Bool.{Bool, true, false}
 use mathlib.Core.List.{List}
 use Prim.Native.Nat.{ℕ, ◌+◌, ◌*◌, ◌/◌, ◌≤◌, ◌<◌}
@@ -8,7 +9,6 @@ use native.Mathlib.Numerals.{add-one}
 use lib.ListN.{length, get_or, take}
 use lib.Seq.{length-take-le, get_or-take, ext_get_or}
 use Rattle.model.specs.declared.Event.{Event}
-use Rattle.model.specs.declared.Found.{Found}
 use Rattle.model.specs.Numbers.{bit, sum, tally, last_of}
 use Rattle.model.specs.Recording.{no_event, event_in}
 use Rattle.model.specs.File.{u16_at, event_at, events_of}
@@ -67,12 +67,12 @@ tally_next p n = rw (add-one n)
 
 -- ---- the last number below n that passes a test
 
-pub last_none : (p : ℕ → Bool) (n : ℕ) → n ≡ 0 → Found.Nothing ≡ last_of p n
+pub last_none : (p : ℕ → Bool) (n : ℕ) → n ≡ 0 → None ≡ last_of p n
 unfolding last_of
 last_none p n e = rw e
 
 module _ (p : ℕ → Bool) (n e : ℕ) (b : Bool) (up : n ≡ e + 1) (t : b ≡ p e) where
-  pub last_here : b ≡ true → Found.At e ≡ last_of p n
+  pub last_here : b ≡ true → Some e ≡ last_of p n
   unfolding last_of
   last_here h = let k : p e ≡ true = sym t ∙ h in rw (up, add-one e, k, last_of)
 
@@ -81,6 +81,6 @@ module _ (p : ℕ → Bool) (n e : ℕ) (b : Bool) (up : n ≡ e + 1) (t : b ≡
   last_lower h = let k : p e ≡ false = sym t ∙ h in rw (up, add-one e, k, last_of)
 
 -- how many records are read, where this was found
-pub read_to : (l : List Event) (t : ℕ) (f : Found) → f ≡ last_event l t → records_read l t ≡ from_hit (length l) f
+pub read_to : (l : List Event) (t : ℕ) (f : Option ℕ) → f ≡ last_event l t → records_read l t ≡ from_hit (length l) f
 unfolding records_read
 read_to l t f q = ap (from_hit (length l)) (sym q)

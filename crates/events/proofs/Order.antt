@@ -5,7 +5,7 @@ use mathlib.Core.List.{List, [], ◌∷◌, ◌++◌}
 use Prim.Native.Nat.{ℕ, ◌+◌, ◌/◌, ◌≤◌, ◌<◌}
 use native.Mathlib.Nat.{zero-add}
 use native.Mathlib.Omega.{arith}
-use lib.ListN.{length, set, take, drop, length-append}
+use lib.ListN.{length, take, drop}
 use lib.Seq.{sets, take-append_seam}
 use Rattle.model.specs.Numbers.{each, picked}
 use Rattle.model.specs.File.{events_of}
@@ -24,7 +24,7 @@ module _ (p : ℕ → Bool) where
   abbrev one : ℕ → List ℕ
   one e = cond (p e) (e ∷ []) []
 
-  picked_more : (e : ℕ) → p e ≡ true → picked p (e + 1) ≡ picked p e ++ (e ∷ [])
+  pub picked_more : (e : ℕ) → p e ≡ true → picked p (e + 1) ≡ picked p e ++ (e ∷ [])
   unfolding picked
   picked_more e t = each_more one e ∙ rw t
 
@@ -41,14 +41,6 @@ module _ (p : ℕ → Bool) where
     where
       here : p e ≡ true → one e ≡ e ∷ []
       here t = rw t
-
-  -- the event e put behind those before it, b being the next
-  module _ (n e b : ℕ) (t : p e ≡ true) (r : Nearest p n (e + 1) b) where
-    pub put_next : (old out : List ℕ) (at i : ℕ) → out ≡ sets old at (picked p e) → i ≡ at + length (picked p e)
-        → (set out i e ≡ sets old at (picked p b)) × (i + 1 ≡ at + length (picked p b))
-    put_next old out at i q j =
-        let all = picked_skip n (e + 1) b r ∙ picked_more e t in
-        (rw (all, sets-append (picked p e) (e ∷ []) old at, q, j), omega (arith, ap length all, length-append (picked p e) (e ∷ [])))
 
 -- a task's events are those picked from all
 pub own_events_lem : (s : List ℕ) (t n : ℕ) → n ≡ length s / 4 → picked (by_task s t) n ≡ own_events (events_of s) t

@@ -1,3 +1,5 @@
 pub mod Running
 pub mod Kept
 pub mod Chains
+pub mod Parts
+pub mod Links

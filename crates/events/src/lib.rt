@@ -3,32 +3,36 @@
 // object, and the task order. And the counts: semaphores and flags, and the level bytes, which are start counts and post counts.
 #![tactic(auto)]
 
-ghost use Rattle.std.specs.Prelude.{◌≡◌, ◌+◌, ◌*◌, ◌/◌, ◌≤◌, ◌<◌, eqb, length, get_or, take};
+ghost use Rattle.std.specs.Prelude.{◌≡◌, true, ◌+◌, ◌*◌, ◌/◌, ◌≤◌, ◌<◌, eqb, length, get_or, take};
 ghost use Rattle.std.proofs.lemmas.List.Edits.{sets};
-ghost use Rattle.model.specs.Numbers.{last_of};
+ghost use Rattle.model.specs.Numbers.{last_of, picked};
 ghost use Rattle.model.specs.Recording.{start_of, post_of, semaphores_of, flags_of, event_in, of_task, is_on};
 ghost use Rattle.model.specs.File.{u16_at, events_of, record_bytes, start_count, level_count, level_bytes, levels_by};
 ghost use Rattle.model.specs.Reading.{most_tasks, most_cells, most_events};
 ghost use Rattle.model.specs.Passes.{fork_of, last_event, before_or_fork};
 ghost use Rattle.model.specs.LastEvent.{records_read, NoneAfterJoin};
 ghost use Rattle.model.specs.Pairs.{is_read, is_write, is_access, is_single, own_events, task_order};
-ghost use Rattle.events.specs.Chains.{access_of, by_task, Along, put_first, linked, Chained, slot_of, slots, head, Gathered};
+ghost use Rattle.events.specs.Chains.{access_of, by_task, Along, put_first, linked, Chained, slot_of, slots, head, on_at, Gathered};
+ghost use Rattle.std.specs.Iterator.{YieldsFirst, item_count};
+ghost use Rattle.events.specs.Links.{along, rising};
 ghost use Rattle.events.specs.Kept.{Positions, KeptTasks, Below, found_below, KeptForks, of_join, Sources, Tasked};
 
 use model::{
-    Counts, Event, FORK, Found, JOIN, MOST_EVENTS, MOST_FLAGS, MOST_SEMAPHORES, POST, READ, SIGNAL,
+    Counts, Event, FORK, JOIN, MOST_EVENTS, MOST_FLAGS, MOST_SEMAPHORES, POST, READ, SIGNAL,
     SINGLE_READ, SINGLE_WRITE, Trailer, WAIT, WITH_FLAGS, WRITE,
 };
 
 // The number of two bytes, little-endian.
+#[tactic(auto, unfolding(model::specs::File::u16_at))]
 pub fn u16_at(s: &[u8], i: usize) -> u16
     requires { i + 1 < length s.now }
     ensures { result ≡ u16_at s.now i }
 {
-    (s[i] as u16) + 256 * (s[i + 1] as u16)
+    u16::from_le_bytes([s[i], s[i + 1]])
 }
 
 // The records' part of a file with this trailer.
+#[tactic(auto, unfolding(model::specs::File::record_bytes))]
 pub fn records_of(file: &[u8], trailer: Trailer) -> &[u8]
     requires { trailer.start + 4 * trailer.records ≤ length file.now }
     ensures { result.now ≡ record_bytes file.now trailer }
@@ -39,6 +43,7 @@ pub fn records_of(file: &[u8], trailer: Trailer) -> &[u8]
 }
 
 // How many semaphores a recording with these counts has: with flags, the low byte of the field.
+#[tactic(auto, unfolding(model::specs::Recording::semaphores_of))]
 pub fn semaphores(counts: Counts) -> u16
     ensures { result ≡ semaphores_of counts }
 {
@@ -49,6 +54,7 @@ pub fn semaphores(counts: Counts) -> u16
 }
 
 // How many flags: the high byte.
+#[tactic(auto, unfolding(model::specs::Recording::flags_of))]
 pub fn flags(counts: Counts) -> u16
     ensures { result ≡ flags_of counts }
 {
@@ -59,6 +65,7 @@ pub fn flags(counts: Counts) -> u16
 }
 
 // How many start bytes a file with these counts has.
+#[tactic(auto, unfolding(model::specs::File::start_count))]
 pub fn start_count(counts: Counts) -> usize
     ensures { (result ≡ start_count counts) × (result < 65536) }
 {
@@ -69,6 +76,7 @@ pub fn start_count(counts: Counts) -> usize
 }
 
 // How many level bytes it has between its records and its trailer.
+#[tactic(auto, unfolding(model::specs::File::level_count))]
 pub fn level_count(counts: Counts) -> usize
     ensures { (result ≡ level_count counts) × (result < 131072) }
 {
@@ -76,6 +84,7 @@ pub fn level_count(counts: Counts) -> usize
 }
 
 // The level bytes of a file with this trailer.
+#[tactic(auto, unfolding(model::specs::File::level_bytes))]
 pub fn levels_of(file: &[u8], trailer: Trailer) -> &[u8]
     requires { trailer.start + 4 * trailer.records + level_count trailer.counts ≤ length file.now }
     ensures { result.now ≡ level_bytes file.now trailer }
@@ -83,6 +92,30 @@ pub fn levels_of(file: &[u8], trailer: Trailer) -> &[u8]
     let start = trailer.start + 4 * trailer.records;
     let stop = start + level_count(trailer.counts);
     &file[start..stop]
+}
+
+// The parts of a file, without its trailer: its records, what its counts are, and its level bytes.
+#[derive(Clone, Copy)]
+pub struct Parts<'a> {
+    pub records: &'a [u8],
+    pub counts: Counts,
+    pub levels: &'a [u8],
+}
+
+impl Parts<'_> {
+    // The parts of a file with this trailer.
+    pub fn of(file: &[u8], trailer: Trailer) -> Parts<'_>
+        requires { trailer.start + 4 * trailer.records + level_count trailer.counts ≤ length file.now }
+        ensures records_value { result.records.now ≡ record_bytes file.now trailer }
+        ensures counts_value { result.counts ≡ trailer.counts }
+        ensures levels_value { result.levels.now ≡ level_bytes file.now trailer }
+    {
+        Parts {
+            records: records_of(file, trailer),
+            counts: trailer.counts,
+            levels: levels_of(file, trailer),
+        }
+    }
 }
 
 // The start bytes among the level bytes.
@@ -133,6 +166,7 @@ pub fn post_of(levels: &[u8], counts: Counts, g: u16) -> u16
 }
 
 // Event e, which is record e.
+#[tactic(auto, using(crate::proofs::Laws::event_at_lem), unfolding(model::specs::File::event_at))]
 pub fn event_at(records: &[u8], e: usize) -> Event
     requires { 4 * e + 3 < length records.now }
     ensures { result ≡ event_in (events_of records.now) e }
@@ -192,24 +226,22 @@ fn is_of_task(records: &[u8], e: usize, task: u16) -> bool
 }
 
 // The last of the first n events with this kind and this object.
-pub fn last_on(records: &[u8], n: usize, kind: u8, object: u16) -> Found
+pub fn last_on(records: &[u8], n: usize, kind: u8, object: u16) -> Option<usize>
     requires { 4 * n ≤ length records.now }
     ensures { result ≡ last_of (λ a. is_on kind object (event_in (events_of records.now) a)) n }
 {
-    let mut i = n;
-    while 0 < i {
-        i -= 1;
+    for i in (0..n).rev() {
         if is_on(records, i, kind, object) {
-            return Found::At(i);
+            return Some(i);
         }
     }
-    Found::Nothing
+    None
 }
 
 // What a look back over a part of the records found, and how many of them it read.
 #[derive(Clone, Copy)]
 pub struct Look {
-    pub last: Found,
+    pub last: Option<usize>,
     pub read: usize,
 }
 
@@ -219,24 +251,23 @@ pub fn last_event(part: &[u8], task: u16) -> Look
     ensures last_value { result.last ≡ last_event (events_of part.now) task }
     ensures read_value { result.read ≡ records_read (events_of part.now) task }
 {
-    let mut left = part.len() / 4;
-    let mut read = 0;
-    while 0 < left {
-        let e = left - 1;
-        read += 1;
+    let whole = part.len() / 4;
+    for e in (0..whole).rev() {
         if is_of_task(part, e, task) {
             return Look {
-                last: Found::At(e),
-                read,
+                last: Some(e),
+                read: whole - e,
             };
         }
-        left = e;
     }
     Look {
-        last: Found::Nothing,
-        read,
+        last: None,
+        read: whole,
     }
 }
+
+// What is kept of each event stands in arrays with a place for as many events as a recording can have: the library takes no
+// memory of its own (a rule of the project).
 
 // The position of each event, in one look: `own` counts the records passed of each task, which is a byte.
 pub fn positions(records: &[u8]) -> [u16; MOST_EVENTS]
@@ -246,13 +277,11 @@ pub fn positions(records: &[u8]) -> [u16; MOST_EVENTS]
     let n = records.len() / 4;
     let mut positions = [0u16; MOST_EVENTS];
     let mut own = [0u16; 256];
-    let mut e = 0;
-    while e < n {
+    for e in 0..n {
         let task = records[4 * e] as usize;
         let at = own[task] + 1;
         own[task] = at;
         positions[e] = at;
-        e += 1;
     }
     positions
 }
@@ -264,16 +293,14 @@ fn kept_tasks(records: &[u8]) -> [u8; MOST_EVENTS]
 {
     let n = records.len() / 4;
     let mut tasks = [0u8; MOST_EVENTS];
-    let mut e = 0;
-    while e < n {
+    for e in 0..n {
         tasks[e] = records[4 * e];
-        e += 1;
     }
     tasks
 }
 
 // The last of the first n events that is this task's, found by a call on the record one lower; a number that no event has where
-// there is none.
+// there is none: an enum made each step a call through memory (docs/DECISIONS.md, Code).
 fn task_before(tasks: &[u8; MOST_EVENTS], n: usize, task: u8) -> usize
     requires { n ≤ most_events }
     ensures { found_below most_events result ≡ last_of (λ a. eqb (get_or tasks.now a 0) task) n }
@@ -295,19 +322,17 @@ fn kept_forks(records: &[u8]) -> [u16; 256]
 {
     let n = records.len() / 4;
     let mut forks = [n as u16; 256];
-    let mut e = 0;
-    while e < n {
+    for e in 0..n {
         let v = event_at(records, e);
         if (v.kind == FORK) & (v.object < 256) {
             forks[v.object as usize] = e as u16;
         }
-        e += 1;
     }
     forks
 }
 
 // The fork of a task; of one that is no byte, and so has no record, it is searched for.
-fn fork_of(records: &[u8], forks: &[u16; 256], task: u16) -> Found
+fn fork_of(records: &[u8], forks: &[u16; 256], task: u16) -> Option<usize>
     requires { KeptForks (events_of records.now) forks.now }
     ensures { (result ≡ fork_of (events_of records.now) task) × Below (length records.now / 4) result }
 {
@@ -319,7 +344,12 @@ fn fork_of(records: &[u8], forks: &[u16; 256], task: u16) -> Found
 }
 
 // The event before e in its task, or for the first event of a task the fork.
-fn before_or_fork(records: &[u8], tasks: &[u8; MOST_EVENTS], forks: &[u16; 256], e: usize) -> Found
+fn before_or_fork(
+    records: &[u8],
+    tasks: &[u8; MOST_EVENTS],
+    forks: &[u16; 256],
+    e: usize,
+) -> Option<usize>
     requires kept_tasks { KeptTasks (events_of records.now) tasks.now × KeptForks (events_of records.now) forks.now }
     requires records_len_bound { (length records.now ≤ 4 * most_events) × (4 * e + 3 < length records.now) }
     ensures { (result ≡ before_or_fork (events_of records.now) e) × Below (length records.now / 4) result }
@@ -327,57 +357,57 @@ fn before_or_fork(records: &[u8], tasks: &[u8; MOST_EVENTS], forks: &[u16; 256],
     let task = tasks[e];
     let before = task_before(tasks, e, task);
     if before < MOST_EVENTS {
-        return Found::At(before);
+        return Some(before);
     }
     fork_of(records, forks, task as u16)
 }
 
 // For a join, the fork of the task that is joined.
-fn join_fork(records: &[u8], forks: &[u16; 256], e: usize) -> Found
+fn join_fork(records: &[u8], forks: &[u16; 256], e: usize) -> Option<usize>
     requires { KeptForks (events_of records.now) forks.now × (4 * e + 3 < length records.now) }
     ensures { (result ≡ of_join (events_of records.now) e (fork_of (events_of records.now) (event_in (events_of records.now) e).object))
         × Below (length records.now / 4) result }
 {
     let j = event_at(records, e);
     if j.kind != JOIN {
-        return Found::Nothing;
+        return None;
     }
     fork_of(records, forks, j.object)
 }
 
 // For a join, the last event of the task that is joined: none follows the join, so the look goes back from there.
-fn join_last(records: &[u8], e: usize) -> Found
+fn join_last(records: &[u8], e: usize) -> Option<usize>
     requires { NoneAfterJoin (events_of records.now) × (4 * e + 3 < length records.now) }
     ensures { (result ≡ of_join (events_of records.now) e (last_event (events_of records.now) (event_in (events_of records.now) e).object))
         × Below (length records.now / 4) result }
 {
     let j = event_at(records, e);
     if j.kind != JOIN {
-        return Found::Nothing;
+        return None;
     }
     let look = last_event(&records[..4 * e], j.object);
     look.last
 }
 
-// A found event of n as a number: n where none was found.
-fn number_of(found: Found, n: usize) -> u16
+// A found event of n as a number: n where none was found. The sources are kept as numbers: an array of Options is twice as large.
+fn number_of(found: Option<usize>, n: usize) -> u16
     requires { Below n found × (n ≤ most_events) }
     ensures { (found_below n result ≡ found) × (result ≤ n) }
 {
     match found {
-        Found::At(a) => a as u16,
-        Found::Nothing => n as u16,
+        Some(a) => a as u16,
+        None => n as u16,
     }
 }
 
 // And back.
-pub fn found_below(n: usize, a: u16) -> Found
+pub fn found_below(n: usize, a: u16) -> Option<usize>
     ensures { (result ≡ found_below n a) × Below n result }
 {
     if (a as usize) < n {
-        return Found::At(a as usize);
+        return Some(a as usize);
     }
-    Found::Nothing
+    None
 }
 
 // A place for each of the three sources of each event.
@@ -393,18 +423,55 @@ pub fn sources(records: &[u8]) -> [u16; SOURCES]
     let tasks = kept_tasks(records);
     let forks = kept_forks(records);
     let mut kept = [0u16; SOURCES];
-    let mut e = 0;
-    while e < n {
+    for e in 0..n {
         kept[3 * e] = number_of(before_or_fork(records, &tasks, &forks, e), n);
         kept[3 * e + 1] = number_of(join_fork(records, &forks, e), n);
         kept[3 * e + 2] = number_of(join_last(records, e), n);
-        e += 1;
     }
     kept
 }
 
 // How long chains are: a place for each event, then one for each object.
 pub const CHAINS: usize = 2048;
+
+// The numbers below `end` that a chain links from `next` on, one after another.
+#[derive(Drop)]
+pub struct Linked<'a> {
+    pub links: &'a [u16; CHAINS],
+    pub next: usize,
+    pub end: usize,
+    ghost room: { end ≤ 1024 },
+    ghost up: { rising links.now end next ≡ true },
+}
+
+impl<'a> Linked<'a> {
+    // The numbers below `end` in the chain that begins at place `head`.
+    pub fn from(links: &'a [u16; CHAINS], head: usize, end: usize) -> Linked<'a>
+        requires inside { (head < 2048) × (end ≤ 1024) }
+        requires up { rising links.now end (get_or links.now head 0) ≡ true }
+        ensures { along result.links.now result.end result.end result.next ≡ along links.now end end (get_or links.now head 0) }
+    {
+        let next = links[head] as usize;
+        Linked { links, next, end }
+    }
+}
+
+impl Iterator for Linked<'_> {
+    type Item = usize;
+
+    ghost next_gives = { YieldsFirst (λ s. along s.links.now s.end s.end s.next) };
+
+    ghost remaining = { item_count (λ s. along s.links.now s.end s.end s.next) };
+
+    fn next(&mut self) -> Option<usize> {
+        let e = self.next;
+        if self.end <= e {
+            return None;
+        }
+        self.next = self.links[e] as usize;
+        Some(e)
+    }
+}
 
 // Puts place i first in the chain of object x.
 fn put_first(chain: &mut [u16; CHAINS], x: u16, i: usize)
@@ -417,6 +484,7 @@ fn put_first(chain: &mut [u16; CHAINS], x: u16, i: usize)
 }
 
 // Puts place i, that of the event v, first in the chain of its cell, where it is an access of one below `limit`.
+#[tactic(auto, unfolding(crate::specs::Chains::linked))]
 fn link(v: Event, limit: u16, i: usize, chain: &mut [u16; CHAINS])
     requires { (limit ≤ most_cells) × (i < most_events) }
     ensures { chain.new ≡ linked limit v i chain.old }
@@ -436,6 +504,7 @@ const POSTS: u16 = 128;
 const OTHERS: u16 = 192;
 
 // The slot of the events of this kind on object x.
+#[tactic(auto, unfolding(crate::specs::Chains::slot_of))]
 pub fn slot_of(kind: u8, x: u16) -> u16
     ensures { (result ≡ slot_of kind x) × (result ≤ slots) }
 {
@@ -458,13 +527,20 @@ pub fn gather(records: &[u8]) -> [u16; CHAINS]
 {
     let n = records.len() / 4;
     let mut chain = [n as u16; CHAINS];
-    let mut e = n;
-    while 0 < e {
-        e -= 1;
+    for e in (0..n).rev() {
         let v = event_at(records, e);
         put_first(&mut chain, slot_of(v.kind, v.object), e);
     }
     chain
+}
+
+// The events of this kind on object x, in file order; by gathered chains.
+pub fn events_on<'a>(records: &[u8], chains: &'a [u16; CHAINS], kind: u8, x: u16) -> Linked<'a>
+    requires { Gathered records.now chains.now × (length records.now ≤ 4 * most_events) × (slot_of kind x < slots) }
+    ensures { along result.links.now result.end result.end result.next ≡ picked (on_at records.now kind x) (length (events_of records.now)) }
+{
+    let slot = slot_of(kind, x) as usize;
+    Linked::from(chains, MOST_EVENTS + slot, records.len() / 4)
 }
 
 // The first event in the slot of this kind on object x; in gathered chains the number of all events where there is none.
@@ -487,11 +563,9 @@ pub fn gather_in(records: &[u8], order: &[u16], limit: u16) -> [u16; CHAINS]
     requires { Along records.now order.now × (limit ≤ most_cells) }
     ensures { Chained (access_of records.now order.now) (length order.now) limit 0 result }
 {
-    let mut i = order.len();
-    let none = i as u16;
-    let mut chain = [none; CHAINS];
-    while 0 < i {
-        i -= 1;
+    let n = order.len();
+    let mut chain = [n as u16; CHAINS];
+    for i in (0..n).rev() {
         let v = event_at(records, at_place(order, i));
         link(v, limit, i, &mut chain);
     }
@@ -503,14 +577,20 @@ pub fn gather_tasks(records: &[u8]) -> [u16; CHAINS]
     requires { length records.now ≤ 4 * most_events }
     ensures { Chained (by_task records.now) (length records.now / 4) 256 0 result }
 {
-    let mut e = records.len() / 4;
-    let none = e as u16;
-    let mut chain = [none; CHAINS];
-    while 0 < e {
-        e -= 1;
+    let events = records.len() / 4;
+    let mut chain = [events as u16; CHAINS];
+    for e in (0..events).rev() {
         put_first(&mut chain, records[4 * e] as u16, e);
     }
     chain
+}
+
+// The events of a task, which is a byte, in file order.
+pub fn task_events<'a>(records: &[u8], chain: &'a [u16; CHAINS], task: u16) -> Linked<'a>
+    requires { Chained (by_task records.now) (length records.now / 4) 256 0 chain.now × (length records.now ≤ 4 * most_events) × (task < 256) }
+    ensures { along result.links.now result.end result.end result.next ≡ own_events (events_of records.now) task }
+{
+    Linked::from(chain, MOST_EVENTS + (task as usize), records.len() / 4)
 }
 
 // Puts the events of a task into the order from place `at` on. Answers the place after them.
@@ -526,13 +606,10 @@ fn put_task(
     ensures order_after { order.new ≡ sets order.old at (own_events (events_of records.now) task) }
     ensures value { result ≡ at + length (own_events (events_of records.now) task) }
 {
-    let n = records.len() / 4;
     let mut next = at;
-    let mut e = chain[MOST_EVENTS + (task as usize)] as usize;
-    while e < n {
+    for e in task_events(records, chain, task) {
         order[next] = e as u16;
         next += 1;
-        e = chain[e] as usize;
     }
     next
 }
@@ -545,10 +622,8 @@ pub fn task_order(records: &[u8], tasks: u16) -> [u16; MOST_EVENTS]
     let chain = gather_tasks(records);
     let mut order = [0u16; MOST_EVENTS];
     let mut at = 0;
-    let mut task: u16 = 0;
-    while task < tasks {
+    for task in 0..tasks {
         at = put_task(records, &chain, task, &mut order, at);
-        task += 1;
     }
     order
 }

@@ -1,28 +1,23 @@
--- Numbers laid at the front of what is lent, one after another.
+-- Numbers laid at the front of what is lent, as many as there is room for.
 -- Assumes nothing.
-use Prim.Native.Nat.{ℕ, zero, suc, ◌+◌, ◌<◌}
-use mathlib.Core.Path.{◌≡◌, refl, ap, ◌∙◌}
-use mathlib.Core.List.{List, [], ◌∷◌}
-use native.Mathlib.Numerals.{add-one}
-use native.Mathlib.Nat.{le_of_suc-le-suc}
-use native.Mathlib.Omega.{arith}
-use lib.ListN.{length, get_or, set, take}
-use lib.Seq.{take-nil}
+use Rattle.std.proofs.Common.{◌≡◌, ℕ, ◌≤◌, ◌<◌, min, List, ◌++◌, length, take, drop, arith}
+use lib.Dec.{leb}
+use lib.ListN.{drop_of_length-le}
+use lib.Seq.{take_all}
+use Rattle.model.proofs.Tests.{cases, leb-true, leb-false}
 use Rattle.model.specs.Report.{laid}
 
-pub none_laid : (l : List ℕ) → l ≡ laid [] l
+pub laid_front : (ns l m : List ℕ) (k : ℕ) → k ≡ min (length ns) (length l) → m ≡ take k ns → m ++ drop k l ≡ laid ns l
 unfolding laid
-none_laid l = rw (take-nil {A = ℕ} (length l)) refl
-
-next : (ns l : List ℕ) (i : ℕ) → i < length ns → set (laid (take i ns) l) i (get_or ns i 0) ≡ laid (take (suc i) ns) l
-unfolding laid
-next [] l i h = absurd (omega arith)
-next (n ∷ ns) [] zero h = refl
-next (n ∷ ns) [] (suc i) h = refl
-next (n ∷ ns) (x ∷ l) zero h = rw (take-nil {A = ℕ} (length l)) refl
-next (n ∷ ns) (x ∷ l) (suc i) h = ap (λ (m : List ℕ). n ∷ m) (next ns l i (le_of_suc-le-suc h))
-
--- one number more, put where the last one ended; past the end nothing changes
-pub next_laid : (ns l : List ℕ) (i : ℕ) → i < length ns → {t t' : List ℕ} → t ≡ laid (take i ns) l → t' ≡ set t i (get_or ns i 0)
-    → t' ≡ laid (take (i + 1) ns) l
-next_laid ns l i h p q = q ∙ rw (p, add-one i) (next ns l i h)
+laid_front ns l m k e p =
+    cases (leb (length ns) (length l))
+    (λ t.
+    let h : length ns ≤ length l = leb-true _ _ t in
+    let f : k ≡ length ns = omega arith in
+    rw (p, f, take_all (length ns) ns (omega arith), take_all (length l) ns h)
+    )
+    (λ t.
+    let h : length l < length ns = leb-false _ _ t in
+    let f : k ≡ length l = omega arith in
+    rw (p, f, drop_of_length-le l {i = length l} (omega arith), drop_of_length-le l {i = length ns} (omega arith))
+    )

@@ -1,4 +1,3 @@
 mod Laying
 mod Looking
-mod Telling
 pub mod Calls

@@ -7,7 +7,7 @@ use Rattle.model.specs.Report.{laid}
 use Rattle.model.specs.Rows.Starred.{of, W, file, G}
 use Rattle.model.specs.Rows.Table.{lent}
 use Rattle.fennrolka.specs.Looking.{looked_of}
-use Rattle.fennrolka.specs.Told.{code_of_reading, code_of_looked, code_of_analysis, told_of_reading, told_of_looked, told_of_analysis}
+use Rattle.fennrolka.specs.Told.{code_of, told_of_reading, told_of_looked, told_of_analysis}
 
 -- edition 3, start 1, 2 events, 5 tasks, 4 semaphores, 6 flags, 7 cells: task 1 posts to flag 5, task 4 writes cell 3
 abbrev pub mixed : List ℕ
@@ -19,14 +19,14 @@ faulty = file 1 1 1 (W 0 ++ of 7 0 0)
 
 -- code and numbers of each call
 abbrev pub Reads : List ℕ → ℕ → List ℕ → Type 0
-Reads f code told = (code_of_reading (reading_of f) ≡ code) × (told_of_reading (reading_of f) ≡ told)
+Reads f code told = (code_of (reading_of f) ≡ code) × (told_of_reading (reading_of f) ≡ told)
 
 abbrev pub Finds : List ℕ → ℕ → ℕ → List ℕ → Type 0
-Finds f e code told = (code_of_looked (looked_of f e) ≡ code) × (told_of_looked (looked_of f e) ≡ told)
+Finds f e code told = (code_of (looked_of f e) ≡ code) × (told_of_looked (looked_of f e) ≡ told)
 
 -- analysing the printed file, with this budget, and work numbers and a list of these lengths
 abbrev pub Analyses : ℕ → ℕ → ℕ → ℕ → List ℕ → Type 0
-Analyses b w l code told = (code_of_analysis (analysis_of G b (lent w) (lent l)) ≡ code) × (told_of_analysis (analysis_of G b (lent w) (lent l)) ≡ told)
+Analyses b w l code told = (code_of (analysis_of G b (lent w) (lent l)) ≡ code) × (told_of_analysis (analysis_of G b (lent w) (lent l)) ≡ told)
 
 pub record Calls : Type 0 where
   pub read : Reads mixed 0 (3 ∷ 1 ∷ 2 ∷ 5 ∷ 4 ∷ 6 ∷ 7 ∷ 0 ∷ [])

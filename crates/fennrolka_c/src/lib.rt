@@ -6,12 +6,12 @@ ghost use Rattle.model.specs.Reading.{reading_of};
 ghost use Rattle.model.specs.Analysing.{analysis_of, work_after_analysing, list_after_analysing};
 ghost use Rattle.model.specs.Report.{laid};
 ghost use Rattle.fennrolka.specs.Looking.{looked_of};
-ghost use Rattle.fennrolka.specs.Told.{code_of_reading, code_of_looked, code_of_analysis, told_of_reading, told_of_looked, told_of_analysis};
+ghost use Rattle.fennrolka.specs.Told.{code_of, told_of_reading, told_of_looked, told_of_analysis};
 
 // Reads a file.
 #[unsafe(no_mangle)]
 pub extern "C" fn fennrolka_read(file: &[u8], told: &mut [u64]) -> u32
-    ensures value { result ≡ code_of_reading (reading_of file.now) }
+    ensures value { result ≡ code_of (reading_of file.now) }
     ensures told_after { told.new ≡ laid (told_of_reading (reading_of file.now)) told.old }
 {
     fennrolka::fennrolka_read(file, told)
@@ -20,7 +20,7 @@ pub extern "C" fn fennrolka_read(file: &[u8], told: &mut [u64]) -> u32
 // Looks for event e of a file.
 #[unsafe(no_mangle)]
 pub extern "C" fn fennrolka_event(file: &[u8], e: usize, told: &mut [u64]) -> u32
-    ensures value { result ≡ code_of_looked (looked_of file.now e) }
+    ensures value { result ≡ code_of (looked_of file.now e) }
     ensures told_after { told.new ≡ laid (told_of_looked (looked_of file.now e)) told.old }
 {
     fennrolka::fennrolka_event(file, e, told)
@@ -35,7 +35,7 @@ pub extern "C" fn fennrolka_analyse(
     list: &mut [u16],
     told: &mut [u64],
 ) -> u32
-    ensures value { result ≡ code_of_analysis (analysis_of file.now budget work.old list.old) }
+    ensures value { result ≡ code_of (analysis_of file.now budget work.old list.old) }
     ensures work_after { work.new ≡ work_after_analysing file.now budget work.old }
     ensures list_after { list.new ≡ list_after_analysing file.now budget work.old list.old }
     ensures told_after { told.new ≡ laid (told_of_analysis (analysis_of file.now budget work.old list.old)) told.old }

@@ -7,7 +7,7 @@ ghost use Rattle.std.specs.Io.KnownBytes.{Consumes, IsAtEnd};
 use std::io;
 use std::io::Read;
 
-// Reads until the bytes are full or the input ends, and answers how many bytes were read.
+// Reads until the bytes are full or the input ends, and answers how many bytes were read: a `while`, since each read says how many.
 pub fn read_full<R: Read>(input: &mut R, bytes: &mut [u8]) -> io::Result<usize>
     ensures fits { IfOk result (λ n. n ≤ length bytes.new) }
     ensures read { IfOk result (λ n. Consumes (R.remaining input.old) (R.remaining input.new) (take n bytes.new)) }

@@ -13,25 +13,28 @@ use model::Counts;
 fn trailer_bytes(n: usize, counts: Counts) -> [u8; 16]
     ensures { result ≡ trailer_bytes n counts }
 {
-    let low = n % 65536;
-    let high = n / 65536;
+    let records = n.to_le_bytes();
+    let tasks = counts.tasks.to_le_bytes();
+    let semaphores = counts.semaphores.to_le_bytes();
+    let cells = counts.cells.to_le_bytes();
+    let edition = counts.edition.to_le_bytes();
     [
         0, // start
         0,
         0,
         0,
-        (low % 256) as u8, // number of records
-        (low / 256 % 256) as u8,
-        (high % 256) as u8,
-        (high / 256 % 256) as u8,
-        (counts.tasks % 256) as u8,
-        (counts.tasks / 256 % 256) as u8,
-        (counts.semaphores % 256) as u8,
-        (counts.semaphores / 256 % 256) as u8,
-        (counts.cells % 256) as u8,
-        (counts.cells / 256 % 256) as u8,
-        (counts.edition % 256) as u8,
-        (counts.edition / 256 % 256) as u8,
+        records[0],
+        records[1],
+        records[2],
+        records[3],
+        tasks[0],
+        tasks[1],
+        semaphores[0],
+        semaphores[1],
+        cells[0],
+        cells[1],
+        edition[0],
+        edition[1],
     ]
 }
 
@@ -40,11 +43,7 @@ pub fn copy_at(bytes: &[u8], out: &mut [u8], at: usize)
     requires { at + length bytes.now ≤ length out.old }
     ensures { out.new ≡ take at out.old ++ bytes.now ++ drop (at + length bytes.now) out.old }
 {
-    let mut i = 0;
-    while i < bytes.len() {
-        out[at + i] = bytes[i];
-        i += 1;
-    }
+    out[at..at + bytes.len()].copy_from_slice(bytes);
 }
 
 // Writes the level bytes and the trailer behind n record bytes.
@@ -84,10 +83,8 @@ fn put_records(records: &[u8], order: &[u16], out: &mut [u8])
     requires { Picks records.now order.now × (4 * length order.now ≤ length out.old) }
     ensures { out.new ≡ records_in records.now order.now ++ drop (4 * length order.now) out.old }
 {
-    let mut i = 0;
-    while i < order.len() {
-        put_record(records, order[i] as usize, out, i);
-        i += 1;
+    for (i, e) in order.iter().enumerate() {
+        put_record(records, *e as usize, out, i);
     }
 }
 

@@ -2,25 +2,25 @@
 -- acceptance.
 -- Assumes nothing.
 use Prim.Native.Nat.{ℕ, zero, suc, ◌<◌}
+use Rattle.std.specs.Prelude.{Ok}
 use mathlib.Core.Path.{◌≡◌, refl, sym, subst}
 use mathlib.Core.Bool.{true}
 use native.Mathlib.Nat.{le_refl, not-suc-le-zero}
 use native.Mathlib.Omega.{arith}
 use lib.Dec.{ltb}
 use lib.ListN.{take}
-use Rattle.model.specs.declared.Check.{Check}
 use Rattle.model.specs.Recording.{Recording, size, tasks, event, task_of, named, names_of, class_of, life_kept, wait_kept, flag_kept, obeys, record_check, first_fault, Accepted}
 use Rattle.model.specs.Acceptable.{Kept}
 use Rattle.model.proofs.Tests.{both, first, second, all_three, last_or_lower, ltb-true}
 use Rattle.model.proofs.Checks.{unless_passed, then_passed}
 
 module _ (E : Recording) where
-  no_fault : (n : ℕ) → first_fault E n ≡ Check.Passed → (e : ℕ) → e < n → record_check E.counts E.levels (take e E.events) (event E e) ≡ Check.Passed
+  no_fault : (n : ℕ) → first_fault E n ≡ Ok tt → (e : ℕ) → e < n → record_check E.counts E.levels (take e E.events) (event E e) ≡ Ok tt
   unfolding first_fault
   no_fault zero h e l = absurd (not-suc-le-zero l)
   no_fault (suc n) h e l =
       let (earlier, here) = then_passed (first_fault E n) _ h in
-      last_or_lower l (λ d. subst (λ (x : ℕ). record_check E.counts E.levels (take x E.events) (event E x) ≡ Check.Passed) (sym d) here)
+      last_or_lower l (λ d. subst (λ (x : ℕ). record_check E.counts E.levels (take x E.events) (event E x) ≡ Ok tt) (sym d) here)
       (λ k. no_fault n earlier e k)
 
   module _ (acc : Accepted E) where
@@ -49,7 +49,7 @@ module _ (E : Recording) where
 
   -- ---- back to acceptance
 
-  record_passes : (e : ℕ) → Kept E e → record_check E.counts E.levels (take e E.events) (event E e) ≡ Check.Passed
+  record_passes : (e : ℕ) → Kept E e → record_check E.counts E.levels (take e E.events) (event E e) ≡ Ok tt
   unfolding record_check obeys
   record_passes e k =
       let before = take e E.events in
@@ -57,7 +57,7 @@ module _ (E : Recording) where
       let (life, wait, flag) = all_three (life_kept before v) (wait_kept E.levels before v) (flag_kept E.levels before v) k.rules in
       rw (k.kind, k.names, life, wait, flag)
 
-  no_faults : (n : ℕ) → ((e : ℕ) → e < n → Kept E e) → first_fault E n ≡ Check.Passed
+  no_faults : (n : ℕ) → ((e : ℕ) → e < n → Kept E e) → first_fault E n ≡ Ok tt
   unfolding first_fault
   no_faults zero h = refl
   no_faults (suc n) h = rw (no_faults n (λ e l. h e (omega arith))) (record_passes n (h n (le_refl (suc n))))

@@ -1,6 +1,7 @@
 -- A file is accepted exactly when its rules hold.
 -- Assumes nothing.
 use Prim.Native.Nat.{ℕ, zero, suc, ◌+◌, ◌*◌, ◌≤◌, ◌<◌}
+use Rattle.std.specs.Prelude.{Ok}
 use mathlib.Core.Path.{◌≡◌, refl}
 use mathlib.Core.Bool.{true}
 use mathlib.Core.List.{List, [], ◌∷◌}
@@ -8,7 +9,6 @@ use native.Mathlib.Nat.{le_of_suc-le-suc, not-suc-le-zero}
 use native.Mathlib.Omega.{arith}
 use lib.Dec.{leb, eqb}
 use lib.ListN.{length, get_or}
-use Rattle.model.specs.declared.Check.{Check}
 use Rattle.model.specs.declared.Counts.{Counts}
 use Rattle.model.specs.Numbers.{count}
 use Rattle.model.specs.Recording.{Accepted}
@@ -49,7 +49,7 @@ each_up [] q g l = absurd (not-suc-le-zero l)
 each_up (x ∷ p) q zero l = cases (eqb 0 x) (λ t. let z : 1 + count (eqb 0) p ≡ 0 = rw t at q in absurd (omega arith)) (λ t. omega tests)
 each_up (x ∷ p) q (suc g) l = each_up p (omega arith) g (le_of_suc-le-suc l)
 
-passes : (f : List ℕ) → Acceptable f → file_check f ≡ Check.Passed
+passes : (f : List ℕ) → Acceptable f → file_check f ≡ Ok tt
 unfolding file_check extent_met posts_up Accepted
 passes f a =
     let E = recording_of f in
@@ -66,7 +66,7 @@ passes f a =
 
 -- ---- what is accepted keeps the rules
 
-keeps : (f : List ℕ) → file_check f ≡ Check.Passed → Acceptable f
+keeps : (f : List ℕ) → file_check f ≡ Ok tt → Acceptable f
 unfolding posts_up
 keeps f q =
     let s = sound f q in

@@ -1,6 +1,7 @@
 -- What a row computes with, under one name: `unfolding rows` unfolds whatever the lines below name.
 -- Assumes nothing.
 use mathlib.Core.Path.{refl}
+use Rattle.std.specs.Prelude.{Err}
 use Rattle.model.specs.declared.Refusal.{Refusal}
 use Rattle.model.specs.Numbers.{sum, count, filter, list_from, each, flat_map, flat_map_tails, picked, last_of, nth, largest, insert, sort, kth_least}
 use Rattle.model.specs.Refusals.{number_of, record_of, pairs_of}
@@ -52,5 +53,5 @@ unfolding reading vectors calls together reversing printing
 rows = tt
 
 -- the refusal of a row; its number, record and pairs compute
-pub refusal : {X : Type 0} (refused : Refusal → X) (r : Refusal) → RefusedAs refused (refused r) (number_of r) (record_of r) (pairs_of r)
-refusal refused r = (r, refl, refl, refl, refl)
+pub refusal : {A : Type 0} (r : Refusal) → RefusedAs {A = A} (Err r) (number_of r) (record_of r) (pairs_of r)
+refusal r = (r, refl, refl, refl, refl)

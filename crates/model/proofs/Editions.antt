@@ -2,6 +2,7 @@
 -- editions 1 and 2.
 -- Assumes nothing.
 use Prim.Native.Nat.{ℕ, zero, suc, ◌≤◌, ◌<◌}
+use Rattle.std.specs.Prelude.{Ok}
 use mathlib.Core.Path.{◌≡◌, refl, sym, ap, ap₂, ◌∙◌}
 use mathlib.Core.Bool.{false, not, cond, ◌&&◌, ◌||◌, or_comm}
 use mathlib.Core.List.{List, [], ◌∷◌, ◌++◌, append-nil}
@@ -10,7 +11,6 @@ use lib.Dec.{leb, eqb}
 use lib.ListN.{length, get_or}
 use Rattle.model.specs.declared.Event.{Event}
 use Rattle.model.specs.declared.Trailer.{Trailer}
-use Rattle.model.specs.declared.Reading.{Reading}
 use Rattle.model.specs.Numbers.{filter, found}
 use Rattle.model.specs.Recording.{start_of, Recording, size, event, kind_of, object_of, signal, wait, read, write, flag_wait, single_read, single_write, wait_kept, flag_kept, life_kept, obeys, has_flags, semaphores_of, flags_of, last_kind, known_kind, Accepted}
 use Rattle.model.specs.File.{trailer_of, start_count, recording_of}
@@ -109,7 +109,7 @@ module _ (E : Recording) (acc : Accepted E) (none : has_flags E.counts ≡ false
 
 -- ---- a file that reading accepts
 
-module _ (f : List ℕ) (h : Trailer) (q : reading_of f ≡ Reading.Accepted h) where
+module _ (f : List ℕ) (h : Trailer) (q : reading_of f ≡ Ok h) where
   starts_are : starts_of f ≡ (recording_of f).levels.starts
   unfolding starts_of
   starts_are = rw (reading_passed f h q)

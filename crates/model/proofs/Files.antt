@@ -1,6 +1,7 @@
 -- What it says of a file that reading accepts it.
 -- Assumes nothing.
 use Prim.Native.Nat.{ℕ, ◌+◌, ◌*◌, ◌/◌, ◌≤◌}
+use Rattle.std.specs.Prelude.{Ok, Err}
 use mathlib.Core.Path.{◌≡◌, refl, sym, ap, ◌∙◌}
 use mathlib.Core.Bool.{true, ◌&&◌}
 use mathlib.Core.List.{List}
@@ -9,8 +10,7 @@ use lib.Dec.{leb, eqb}
 use lib.ListN.{length, length-take, length-drop}
 use Rattle.model.specs.declared.Counts.{Counts}
 use Rattle.model.specs.declared.Trailer.{Trailer}
-use Rattle.model.specs.declared.Check.{Check}
-use Rattle.model.specs.declared.Reading.{Reading}
+use Rattle.model.specs.Refusals.{Check}
 use Rattle.model.specs.Recording.{size, no_event, semaphores_of, flags_of, Accepted}
 use Rattle.model.specs.File.{event_at, events_of, trailer_at, trailer_of, start_count, level_count, level_bytes, record_bytes, recording_of}
 use Rattle.model.specs.Reading.{last_edition, known_edition, extent_met, in_range, posts_up, file_check, reading_by, reading_of, most_tasks, most_semaphores, most_flags, most_cells, most_events}
@@ -47,7 +47,7 @@ pub record Sound (f : List ℕ) : Type 0 where
   pub posts : posts_up (recording_of f).levels.posts ≡ true
   pub accepted : Accepted (recording_of f)
 
-pub sound : (f : List ℕ) → file_check f ≡ Check.Passed → Sound f
+pub sound : (f : List ℕ) → file_check f ≡ Ok tt → Sound f
 unfolding file_check known_edition extent_met Accepted
 sound f h =
     let (long, a) = unless_passed (leb 16 (length f)) _ _ h in
@@ -69,20 +69,20 @@ sound f h =
     }
 
 -- reading accepts a file exactly where its check passes
-pub reading_passed : (f : List ℕ) (h : Trailer) → reading_of f ≡ Reading.Accepted h → file_check f ≡ Check.Passed
+pub reading_passed : (f : List ℕ) (h : Trailer) → reading_of f ≡ Ok h → file_check f ≡ Ok tt
 unfolding reading_of
 reading_passed f h q = go (file_check f) q
   where
-    go : (c : Check) → reading_by (trailer_of f) c ≡ Reading.Accepted h → c ≡ Check.Passed
-    go Check.Passed q = refl
-    go (Check.Failed r) q = let z : ◌≡◌ {A = ℕ} 0 1 = cc in absurd (omega arith)
+    go : (c : Check) → reading_by (trailer_of f) c ≡ Ok h → c ≡ Ok tt
+    go (Ok tt) q = refl
+    go (Err r) q = let z : ◌≡◌ {A = ℕ} 0 1 = cc in absurd (omega arith)
 
 -- and answers the file's own trailer
-pub trailer_read : (f : List ℕ) (h : Trailer) → reading_of f ≡ Reading.Accepted h → trailer_of f ≡ h
+pub trailer_read : (f : List ℕ) (h : Trailer) → reading_of f ≡ Ok h → trailer_of f ≡ h
 unfolding reading_of
 trailer_read f h q = let r = sym (ap (reading_by (trailer_of f)) (reading_passed f h q)) ∙ q in cc
 
-pub accepted_recording : (f : List ℕ) (h : Trailer) → reading_of f ≡ Reading.Accepted h → Accepted (recording_of f)
+pub accepted_recording : (f : List ℕ) (h : Trailer) → reading_of f ≡ Ok h → Accepted (recording_of f)
 accepted_recording f h q = (sound f (reading_passed f h q)).accepted
 
 -- ---- the events of record bytes

@@ -1,11 +1,11 @@
 -- The events that the recorded vectors put at or before x, first, and then the others: an admissible order.
 -- Assumes nothing.
 use Prim.Native.Nat.{ℕ, zero, suc, ◌+◌, ◌≤◌, ◌<◌}
+use Rattle.std.specs.Prelude.{Option, Some, None}
 use mathlib.Core.Path.{◌≡◌, refl, sym, ap, subst, ◌∙◌}
 use mathlib.Core.Bool.{Bool, true, false, not, ◌&&◌}
 use mathlib.Core.List.Memᴰ
 use mathlib.Core.List.{List, ◌++◌, Memᴰ}
-use Rattle.model.specs.declared.Found.{Found}
 use native.Mathlib.Nat.{le_refl, not-suc-le-zero}
 use native.Mathlib.Omega.{arith}
 use lib.Dec.{leb, ltb, eqb}
@@ -63,10 +63,10 @@ module _ (E : Recording) (acc : Accepted E) (x : ℕ) (inside : x < size E) wher
   fork_brings zero f e m k l t u = absurd (not-suc-le-zero m)
   fork_brings (suc n) f e m k l t u = go (previous E.events e) refl (λ p i j s v. fork_brings n f p i k j s v)
     where
-      go : (w : Found) → previous E.events e ≡ w
+      go : (w : Option ℕ) → previous E.events e ≡ w
           → ((p : ℕ) → p < n → p < size E → is_fork (task_of E p) (event E f) ≡ true → up p ≡ true → up f ≡ true) → up f ≡ true
-      go Found.Nothing q ih = brings e f l (has_fork E e f q (fork_found E f₀ file (task_of E e) f k t)) u
-      go (Found.At p) q ih =
+      go None q ih = brings e f l (has_fork E e f q (fork_found E f₀ file (task_of E e) f k t)) u
+      go (Some p) q ih =
           let r = last_some (λ a. of_task (task_of E e) (event E a)) e p q in
           let lower = r.inside in
           let same = eqb-true (task_of E p) (task_of E e) r.passes in
@@ -153,7 +153,7 @@ module _ (E : Recording) (acc : Accepted E) (x : ℕ) (inside : x < size E) wher
       at a = is_wait S (event E a) && leb (place o a) (place o e)
 
       M : ℕ → ℕ → Type 0
-      M a s = (is_wait S (event E a) ≡ true) × (matched E.levels E.events a ≡ Found.At s)
+      M a s = (is_wait S (event E a) ≡ true) × (matched E.levels E.events a ≡ Some s)
 
       rank : (a s : ℕ) → M a s → tally (λ w. is_wait S (event E w)) a ≡ first_ones + tally (λ b. is_signal S (event E b)) s
       rank a s (w, q) =

@@ -1,6 +1,7 @@
 -- The last event of a joined task is the last before its join.
 -- Assumes nothing.
 use Prim.Native.Nat.{ℕ, zero, suc, ◌≤◌, ◌<◌}
+use Rattle.std.specs.Prelude.{Option, Some, None}
 use mathlib.Core.Path.{◌≡◌, refl, sym, ap, ap₂, ◌∙◌}
 use mathlib.Core.Bool.{Bool, true, false}
 use mathlib.Core.List.{List}
@@ -8,7 +9,6 @@ use native.Mathlib.Omega.{arith}
 use lib.ListN.{length, take}
 use lib.Seq.{length-take-le, get_or-take}
 use Rattle.model.specs.declared.Event.{Event}
-use Rattle.model.specs.declared.Found.{Found}
 use Rattle.model.specs.Numbers.{last_of}
 use Rattle.model.specs.Recording.{Recording, event, event_in, no_event, task_of, of_task, is_join, Accepted}
 use Rattle.model.specs.Passes.{last_event}
@@ -31,9 +31,9 @@ looked l t =
     p : ℕ → Bool
     p a = of_task t (event_in l a)
 
-    nothing : ((a : ℕ) → a < length l → p a ≡ false) → (m : Found) → last_event l t ≡ m → last_event l t ≡ Found.Nothing
-    nothing h Found.Nothing q = q
-    nothing h (Found.At a) q = let k = last_some p (length l) a q in clash k.passes (h a k.inside)
+    nothing : ((a : ℕ) → a < length l → p a ≡ false) → (m : Option ℕ) → last_event l t ≡ m → last_event l t ≡ None
+    nothing h None q = q
+    nothing h (Some a) q = let k = last_some p (length l) a q in clash k.passes (h a k.inside)
 
 -- ---- the last of all is the last before the join
 
@@ -41,7 +41,7 @@ looked l t =
 last_alike : (p q : ℕ → Bool) (n : ℕ) → ((a : ℕ) → a < n → p a ≡ q a) → last_of p n ≡ last_of q n
 unfolding last_of
 last_alike p q zero h = refl
-last_alike p q (suc n) h = ap₂ (λ (b : Bool) (m : Found). elim b as (λ (x : Bool). Found) [ true ↦ Found.At n | false ↦ m ]) (h n (omega arith)) (last_alike p q n (λ a k. h a (omega arith)))
+last_alike p q (suc n) h = ap₂ (λ (b : Bool) (m : Option ℕ). elim b as (λ (x : Bool). Option ℕ) [ true ↦ Some n | false ↦ m ]) (h n (omega arith)) (last_alike p q n (λ a k. h a (omega arith)))
 
 -- numbers that fail at the end change nothing
 last_cut : (p : ℕ → Bool) (e n : ℕ) → e ≤ n → ((a : ℕ) → e ≤ a → a < n → p a ≡ false) → last_of p n ≡ last_of p e

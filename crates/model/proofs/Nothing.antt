@@ -6,14 +6,13 @@ use mathlib.Core.Bool.{true, false}
 use mathlib.Core.List.{List, []}
 use native.Mathlib.Nat.{not-suc-le-zero, zero-mul}
 use lib.ListN.{length}
-use Rattle.model.specs.declared.Analysis.{Analysis}
 use Rattle.model.specs.Numbers.{list_from, each, flat_map_tails, picked}
 use Rattle.model.specs.Recording.{Recording, size, tasks, cells}
 use Rattle.model.specs.Vectors.{flat, start}
 use Rattle.model.specs.Passes.{pass_to, pass, Run, further, run}
 use Rattle.model.specs.Recorded.{recorded_to, recorded}
 use Rattle.model.specs.Pairs.{cell_entries, entries_in, task_order, entries, listed}
-use Rattle.model.specs.Analysing.{work_fits, filled, done}
+use Rattle.model.specs.Analysing.{work_fits, filled, done, analysed}
 use Rattle.model.proofs.Tests.{le-leb}
 use Rattle.model.proofs.Each.{each_none}
 
@@ -59,13 +58,13 @@ module _ (E : Recording) (none : size E ≡ 0) where
 
   -- ---- what analysing answers
 
-  done_by : (b : ℕ) → done E b ≡ Analysis.Done (run_none b).passes (run_none b).settled 0
-  done_by b = ap₂ (λ (r : Run) (n : ℕ). Analysis.Done r.passes r.settled n) (run_none_lem b) (ap length (listed_none b))
+  done_by : (b : ℕ) → done E b ≡ analysed (run_none b).passes (run_none b).settled 0
+  done_by b = ap₂ (λ (r : Run) (n : ℕ). analysed r.passes r.settled n) (run_none_lem b) (ap length (listed_none b))
 
-  pub done_unspent : done E 0 ≡ Analysis.Done 0 false 0
+  pub done_unspent : done E 0 ≡ analysed 0 false 0
   done_unspent = done_by 0
 
-  pub done_quiet : (b : ℕ) → 0 < b → done E b ≡ Analysis.Done 1 true 0
+  pub done_quiet : (b : ℕ) → 0 < b → done E b ≡ analysed 1 true 0
   done_quiet zero l = absurd (not-suc-le-zero l)
   done_quiet (suc b) l = done_by (suc b)
 

@@ -1,6 +1,7 @@
 -- The numbers that pass a test, in order: how often each stands there, and where.
 -- Assumes nothing.
 use Prim.Native.Nat.{ℕ, zero, suc, ◌+◌, ◌≤◌, ◌<◌}
+use Rattle.std.specs.Prelude.{Some, None}
 use mathlib.Core.Path.{◌≡◌, refl, sym, ap, ap₂, subst, ◌∙◌}
 use mathlib.Core.Bool.{Bool, true, false, cond, not, ◌&&◌}
 use mathlib.Core.List.{List, [], ◌∷◌, ◌++◌, append-nil, Memᴰ}
@@ -9,7 +10,6 @@ use native.Mathlib.Omega.{arith}
 use lib.Dec.{ltb, eqb}
 use lib.ListN.{length, get_or, take, length-append}
 use lib.Seq.{take-nil, take_all, take-append-le}
-use Rattle.model.specs.declared.Found.{Found}
 use Rattle.model.specs.Numbers.{bit, sum, tally, count, each, picked, nth}
 use Rattle.model.specs.Orders.{place, occurrences}
 use Rattle.model.proofs.Tests.{cases, clash, to_not, both, and_true, and_fails, bit_true, bit_false, bit_le, bit_pos, first, second, tests, bits, last_or_lower, eqb-true, eq-eqb, lt-ltb, le-ltb, ltb-true}
@@ -46,24 +46,24 @@ nth_left [] m k h = absurd (not-suc-le-zero h)
 nth_left (x ∷ l) m zero h = refl
 nth_left (x ∷ l) m (suc k) h = nth_left l m k (omega arith)
 
-nth_at : (l : List ℕ) (x : ℕ) → nth (l ++ x ∷ []) (length l) ≡ Found.At x
+nth_at : (l : List ℕ) (x : ℕ) → nth (l ++ x ∷ []) (length l) ≡ Some x
 unfolding nth
 nth_at [] x = refl
 nth_at (y ∷ l) x = nth_at l x
 
-nth_past : (l : List ℕ) (k : ℕ) → length l ≤ k → nth l k ≡ Found.Nothing
+nth_past : (l : List ℕ) (k : ℕ) → length l ≤ k → nth l k ≡ None
 unfolding nth
 nth_past [] k h = refl
 nth_past (x ∷ l) zero h = absurd (omega arith)
 nth_past (x ∷ l) (suc k) h = nth_past l k (omega arith)
 
-nth_inside : (l : List ℕ) (k : ℕ) → k < length l → nth l k ≡ Found.At (get_or l k 0)
+nth_inside : (l : List ℕ) (k : ℕ) → k < length l → nth l k ≡ Some (get_or l k 0)
 unfolding nth
 nth_inside [] k h = absurd (not-suc-le-zero h)
 nth_inside (x ∷ l) zero h = refl
 nth_inside (x ∷ l) (suc k) h = nth_inside l k (omega arith)
 
-nth_at_place : (l : List ℕ) (k x : ℕ) → nth l k ≡ Found.At x → get_or l k 0 ≡ x
+nth_at_place : (l : List ℕ) (k x : ℕ) → nth l k ≡ Some x → get_or l k 0 ≡ x
 unfolding nth
 nth_at_place [] k x q = let z : ◌≡◌ {A = ℕ} 0 1 = cc in absurd (omega arith)
 nth_at_place (y ∷ l) zero x q = cc
@@ -169,7 +169,7 @@ module _ (p : ℕ → Bool) where
   picked_few n = let a = picked_length n in let b = sum_bound (λ e. bit (p e)) 1 n (λ e l. bit_le (p e) true (λ _. refl)) in omega arith
 
   -- the number of rank k stands at place k
-  pub nth_rank : (n s : ℕ) → s < n → p s ≡ true → nth (picked p n) (tally p s) ≡ Found.At s
+  pub nth_rank : (n s : ℕ) → s < n → p s ≡ true → nth (picked p n) (tally p s) ≡ Some s
   unfolding one
   nth_rank zero s l t = absurd (not-suc-le-zero l)
   nth_rank (suc n) s l t =
@@ -178,14 +178,14 @@ module _ (p : ℕ → Bool) where
       let here : one n ≡ n ∷ [] = rw (ap p (sym d) ∙ t) in
       ap (λ (m : List ℕ). nth m (tally p s)) (picked_suc n ∙ ap (λ (m : List ℕ). picked p n ++ m) here)
       ∙ ap (nth (picked p n ++ n ∷ [])) (ap (tally p) d ∙ sym (picked_length n))
-      ∙ nth_at (picked p n) n ∙ ap (λ (x : ℕ). Found.At x) (sym d))
+      ∙ nth_at (picked p n) n ∙ ap (λ (x : ℕ). Some x) (sym d))
       (λ k.
       let r = rank_rises p s n k t in
       let z = picked_length n in
       ap (λ (m : List ℕ). nth m (tally p s)) (picked_suc n) ∙ nth_left (picked p n) (one n) (tally p s) (omega arith) ∙ nth_rank n s k t)
 
   -- what stands at place k passes, and k that pass are below it
-  pub nth_of : (n k x : ℕ) → nth (picked p n) k ≡ Found.At x → (x < n) × (p x ≡ true) × (tally p x ≡ k)
+  pub nth_of : (n k x : ℕ) → nth (picked p n) k ≡ Some x → (x < n) × (p x ≡ true) × (tally p x ≡ k)
   nth_of n k x h =
       cases (ltb k (tally p n))
       (λ t.
@@ -194,13 +194,13 @@ module _ (p : ℕ → Bool) where
       (omega arith, subst (λ (y : ℕ). p y ≡ true) same q, subst (λ (y : ℕ). tally p y ≡ k) same r))
       (λ t. let z = picked_length n in at_nothing (sym h ∙ nth_past (picked p n) k (omega tests)))
     where
-      at_inj : {a b : ℕ} → Found.At a ≡ Found.At b → a ≡ b
+      at_inj : {a b : ℕ} → Some a ≡ Some b → a ≡ b
       at_inj e = cc
 
-      at_nothing : {X : Type 0} → Found.At x ≡ Found.Nothing → X
+      at_nothing : {X : Type 0} → Some x ≡ None → X
       at_nothing e = let z : ◌≡◌ {A = ℕ} 0 1 = cc in absurd (omega arith)
 
-  pub nth_found : (n k : ℕ) → k < tally p n → (x : ℕ) × (nth (picked p n) k ≡ Found.At x)
+  pub nth_found : (n k : ℕ) → k < tally p n → (x : ℕ) × (nth (picked p n) k ≡ Some x)
   nth_found n k h = let (s, l, q, r) = ranked p n k h in (s, sym (ap (nth (picked p n)) r) ∙ nth_rank n s l q)
 
   -- the same, read off the list

@@ -2,6 +2,7 @@
 -- accepted.
 -- Assumes nothing.
 use Prim.Native.Nat.{ℕ, zero, suc, ◌+◌, ◌*◌, ◌/◌, ◌%◌, ◌<◌}
+use Rattle.std.specs.Prelude.{Ok}
 use mathlib.Core.Path.{◌≡◌, refl, sym, ap, ◌∙◌}
 use mathlib.Core.Bool.{true}
 use mathlib.Core.List.{List, [], ◌∷◌, ◌++◌, map}
@@ -13,7 +14,6 @@ use lib.Seq.{ext_get_or}
 use Rattle.model.specs.declared.Event.{Event}
 use Rattle.model.specs.declared.Counts.{Counts}
 use Rattle.model.specs.declared.Refusal.{Refusal}
-use Rattle.model.specs.declared.Reading.{Reading}
 use Rattle.model.specs.Numbers.{flat_map}
 use Rattle.model.specs.Refusals.{unless}
 use Rattle.model.specs.Recording.{Recording, size, no_event, event, event_in, known_kind, named, first_fault, Accepted}
@@ -109,9 +109,9 @@ module _ (s o : List ℕ) (within : Within (length (events_of s)) o) where
     -- so the file of them is accepted where they are, and holds that recording
     pub accepted_in : known_edition c ≡ true → in_range c (length o) ≡ true → posts_up p ≡ true → levels_fit c b p ≡ true
         → Accepted (in_order (recording_by s c (b ++ p)) o)
-        → (reading_of (file_in s o c (b ++ p)) ≡ Reading.Accepted (record { start = 0; records = length o; counts = c }))
+        → (reading_of (file_in s o c (b ++ p)) ≡ Ok (record { start = 0; records = length o; counts = c }))
         × (recording_of (file_in s o c (b ++ p)) ≡ in_order (recording_by s c (b ++ p)) o)
     unfolding Accepted
     accepted_in edition range up fit acc =
         let (accepted, _, _, _, holds) = written_accepted (records_in s o) c b p (check_in ∙ rw (edition, range, up, fit) acc) in
-        (accepted ∙ ap (λ (k : ℕ). Reading.Accepted (record { start = 0; records = k; counts = c })) (in_count s o), holds ∙ recording_in c (b ++ p))
+        (accepted ∙ ap (λ (k : ℕ). Ok (record { start = 0; records = k; counts = c })) (in_count s o), holds ∙ recording_in c (b ++ p))

@@ -2,6 +2,7 @@
 -- from and, for a wait, what step 2 raises to.
 -- Assumes nothing.
 use Prim.Native.Nat.{ℕ, zero, suc, ◌≤◌, ◌<◌, max, zero-le}
+use Rattle.std.specs.Prelude.{Option, Some, None}
 use mathlib.Core.Path.{◌≡◌, refl, sym, ap, subst, ◌∙◌}
 use mathlib.Core.Bool.{true}
 use mathlib.Core.Logic.{◌⊎◌, inl, inr}
@@ -12,7 +13,6 @@ use native.Mathlib.Decide.{le_ind}
 use native.Mathlib.Omega.{arith}
 use lib.ListN.{length, get_or, set}
 use lib.Seq.{get_or-set_same, get_or-set_other, set-get_or, ext_get_or}
-use Rattle.model.specs.declared.Found.{Found}
 use Rattle.model.specs.Recording.{Recording, size, tasks, event, task_of, object_of, of_task, is_fork, Accepted}
 use Rattle.model.specs.Orders.{Admissible, file_order}
 use Rattle.model.specs.Vectors.{Vectors, number}
@@ -97,11 +97,11 @@ module _ (E : Recording) (X : Vectors) (shape : Shaped (size E) (tasks E) X) (qu
       fork_quiet zero e f t h l k q = absurd (not-suc-le-zero h)
       fork_quiet (suc n) e f t h l k q = go (previous E.events e) refl (λ p u i j. fork_quiet n p f t u i k j)
         where
-          go : (m : Found) → previous E.events e ≡ m
+          go : (m : Option ℕ) → previous E.events e ≡ m
               → ((p : ℕ) → p < n → p < size E → is_fork (task_of E p) (event E f) ≡ true → number X f t ≤ number X p t)
               → number X f t ≤ number X e t
-          go Found.Nothing r ih = taken e f t l k (Memᴰ.tail (has_fork E e f r (fork_found E o adm (task_of E e) f k q)))
-          go (Found.At p) r ih =
+          go None r ih = taken e f t l k (Memᴰ.tail (has_fork E e f r (fork_found E o adm (task_of E e) f k q)))
+          go (Some p) r ih =
               let w = last_some (λ a. of_task (task_of E e) (event E a)) e p r in
               let own = eqb-true (task_of E p) (task_of E e) w.passes in
               let less = w.inside in

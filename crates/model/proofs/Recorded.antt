@@ -1,12 +1,12 @@
 -- The recorded run: its vectors as an equation, and that what they order is ordered all the way down.
 -- Assumes nothing.
 use Prim.Native.Nat.{ℕ, zero, suc, ◌+◌, ◌-◌, ◌≤◌, ◌<◌, max, zero-le}
+use Rattle.std.specs.Prelude.{Some, None}
 use mathlib.Core.Path.{◌≡◌, refl, sym, ap, ap₂, subst, ◌∙◌}
 use mathlib.Core.Logic.{◌⊎◌, inl, inr}
 use mathlib.Core.Bool.{Bool, true, false, cond, ◌&&◌}
 use mathlib.Core.List.Memᴰ
 use mathlib.Core.List.{[], ◌++◌, Memᴰ}
-use Rattle.model.specs.declared.Found.{Found}
 use native.Mathlib.Nat.{le_refl, le_trans, le_of_eq, not-suc-le-zero, le-max_left, le-max_right}
 use native.Mathlib.Decide.{le_ind}
 use native.Mathlib.Omega.{arith}
@@ -38,11 +38,11 @@ pub record Match (E : Recording) (e s : ℕ) : Type 0 where
   pub signal : is_signal (object_of E e) (event E s) ≡ true
   pub rank : start_of E.levels (object_of E e) + tally (λ b. is_signal (object_of E e) (event E b)) s ≡ tally (λ w. is_wait (object_of E e) (event E w)) e
 
-pub matched_wait : (E : Recording) (e s : ℕ) → matched E.levels E.events e ≡ Found.At s → (eqb (kind_of E e) wait ≡ true) × Match E e s
+pub matched_wait : (E : Recording) (e s : ℕ) → matched E.levels E.events e ≡ Some s → (eqb (kind_of E e) wait ≡ true) × Match E e s
 unfolding matched events_on
 matched_wait E e s h = go (eqb (kind_of E e) wait) refl h
   where
-    go : (b : Bool) → eqb (kind_of E e) wait ≡ b → match_where E.levels E.events e b ≡ Found.At s → (eqb (kind_of E e) wait ≡ true) × Match E e s
+    go : (b : Bool) → eqb (kind_of E e) wait ≡ b → match_where E.levels E.events e b ≡ Some s → (eqb (kind_of E e) wait ≡ true) × Match E e s
     go false q h = let z : ◌≡◌ {A = ℕ} 0 1 = cc in absurd (omega arith)
     go true q h = (q, later _ _ h refl refl)
       where
@@ -52,7 +52,7 @@ matched_wait E e s h = go (eqb (kind_of E e) wait) refl h
         first : ℕ
         first = start_of E.levels (object_of E e)
 
-        later : (t : Bool) (k : ℕ) → cond t Found.Nothing (nth (signals_on E.events (object_of E e)) k) ≡ Found.At s
+        later : (t : Bool) (k : ℕ) → cond t None (nth (signals_on E.events (object_of E e)) k) ≡ Some s
             → t ≡ ltb waits first → k ≡ waits - first → Match E e s
         later true k h t d = let z : ◌≡◌ {A = ℕ} 0 1 = cc in absurd (omega arith)
         later false k h t d =
@@ -116,7 +116,7 @@ module _ (E : Recording) (acc : Accepted E) where
       let a = flag_served E (file_order E) file e l q in
       let p = before e l (λ b. is_post (object_of E e) (event E b)) in omega arith
 
-  matched_lower : (e s : ℕ) → e < size E → matched E.levels E.events e ≡ Found.At s → s < e
+  matched_lower : (e s : ℕ) → e < size E → matched E.levels E.events e ≡ Some s → s < e
   matched_lower e s l h =
       let (q, m) = matched_wait E e s h in
       let r = m.rank in
@@ -130,7 +130,7 @@ module _ (E : Recording) (acc : Accepted E) where
 
   -- the waits after the first ones are matched
   pub matched_found : (e : ℕ) → e < size E → eqb (kind_of E e) wait ≡ true → start_of E.levels (object_of E e) ≤ waits_before E.events e
-      → (s : ℕ) × (matched E.levels E.events e ≡ Found.At s)
+      → (s : ℕ) × (matched E.levels E.events e ≡ Some s)
   unfolding matched events_on
   matched_found e l q late =
       let signals = tally_grow (λ b. is_signal (object_of E e) (event E b)) e (size E) (omega arith) in

@@ -2,6 +2,7 @@
 -- before it in its task. In the middle of a pass this need not hold. (For requests 4, 9 and 12.)
 -- Assumes nothing.
 use Prim.Native.Nat.{ℕ, zero, suc, ◌≤◌, ◌<◌, zero-le}
+use Rattle.std.specs.Prelude.{Some}
 use mathlib.Core.Path.{◌≡◌, refl, sym, ap, ◌∙◌}
 use mathlib.Core.Bool.{cond}
 use mathlib.Core.List.Memᴰ
@@ -9,7 +10,6 @@ use native.Mathlib.Nat.{le_refl, le_trans, le_of_eq, not-suc-le-zero}
 use native.Mathlib.Decide.{le_ind}
 use native.Mathlib.Omega.{arith}
 use lib.Dec.{ltb, eqb}
-use Rattle.model.specs.declared.Found.{Found}
 use Rattle.model.specs.Recording.{Recording, size, tasks, event, task_of, of_task}
 use Rattle.model.specs.Vectors.{Vectors, number, start, position}
 use Rattle.model.specs.Passes.{previous, raised, pass_to, pass, safe_vectors}
@@ -24,7 +24,7 @@ abbrev pub Rising : Recording → Vectors → Type 0
 Rising E X = (a e t : ℕ) → a < e → e < size E → task_of E a ≡ task_of E e → number X a t ≤ number X e t
 
 -- it is enough that it has those of the event before it, which leads back to the others
-rising_by : (E : Recording) (X : Vectors) → ((p e t : ℕ) → e < size E → previous E.events e ≡ Found.At p → number X p t ≤ number X e t)
+rising_by : (E : Recording) (X : Vectors) → ((p e t : ℕ) → e < size E → previous E.events e ≡ Some p → number X p t ≤ number X e t)
     → (n a e t : ℕ) → e < n → a < e → e < size E → task_of E a ≡ task_of E e → number X a t ≤ number X e t
 rising_by E X step zero a e t h k l q = absurd (not-suc-le-zero h)
 rising_by E X step (suc n) a e t h k l q =
@@ -62,7 +62,7 @@ module _ (E : Recording) (X : Vectors) (shape : Shaped (size E) (tasks E) X) whe
       le_ind (λ m. number (pass_to E X m) e t ≡ number (pass_to E X n) e t) refl (λ m l p. turn_other m e t (λ q. omega arith) ∙ p) (size E) h
 
   -- at its turn an event takes at least the numbers of the event before it, whose turn is over
-  turn_takes : (p e t : ℕ) → e < size E → previous E.events e ≡ Found.At p → number (pass E X) p t ≤ number (pass E X) e t
+  turn_takes : (p e t : ℕ) → e < size E → previous E.events e ≡ Some p → number (pass E X) p t ≤ number (pass E X) e t
   unfolding pass_to
   turn_takes p e t l q =
       let Y = pass_to E X e in

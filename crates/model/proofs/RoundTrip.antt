@@ -2,6 +2,7 @@
 -- The trailer of a written file stands behind its records, so each of its fields is read off the bytes that were written.
 -- Assumes nothing.
 use Prim.Native.Nat.{ℕ, ◌+◌, ◌*◌, ◌/◌, ◌%◌, ◌≤◌, ◌<◌}
+use Rattle.std.specs.Prelude.{Ok, Err}
 use mathlib.Core.Path.{◌≡◌, refl, sym, ap, ap₂, subst, ◌∙◌}
 use mathlib.Core.Bool.{true}
 use mathlib.Core.List.{List, [], ◌∷◌, ◌++◌, append_assoc}
@@ -13,11 +14,8 @@ use lib.Seq.{get_or-append-add, get_or-drop, ext_get_or, take_at, drop_at, take-
 use Rattle.model.specs.declared.Counts.{Counts}
 use Rattle.model.specs.declared.Trailer.{Trailer}
 use Rattle.model.specs.declared.Refusal.{Refusal}
-use Rattle.model.specs.declared.Check.{Check}
-use Rattle.model.specs.declared.Reading.{Reading}
-use Rattle.model.specs.declared.Written.{Written}
+use Rattle.model.specs.Refusals.{Check, unless}
 use Rattle.model.specs.Numbers.{list_from, list_of}
-use Rattle.model.specs.Refusals.{unless}
 use Rattle.model.specs.Recording.{size, semaphores_of, flags_of, has_flags, first_fault}
 use Rattle.model.specs.File.{u16_at, u32_at, trailer_at, trailer_of, record_bytes, start_count, level_count, level_bytes, recording_by, recording_of}
 use Rattle.model.specs.Reading.{last_edition, known_edition, extent_met, in_range, posts_up, file_check, reading_of, records_of, starts_of, posts_of}
@@ -187,8 +185,8 @@ same_check s c b p fits fit =
 
 -- a file written from records that pass is accepted, and holds them, its start bytes and post bytes, and the recording that it was
 -- written from
-pub written_accepted : (s : List ℕ) (c : Counts) (b p : List ℕ) → records_check s c b p ≡ Check.Passed
-    → let f = file_of s c (b ++ p) in (reading_of f ≡ Reading.Accepted (record { start = 0; records = length s / 4; counts = c }))
+pub written_accepted : (s : List ℕ) (c : Counts) (b p : List ℕ) → records_check s c b p ≡ Ok tt
+    → let f = file_of s c (b ++ p) in (reading_of f ≡ Ok (record { start = 0; records = length s / 4; counts = c }))
     × (records_of f ≡ s) × (starts_of f ≡ b) × (posts_of f ≡ p) × (recording_of f ≡ recording_by s c (b ++ p))
 unfolding records_check lent_check known_edition reading_of records_of starts_of posts_of recording_of
 written_accepted s c b p checked =
@@ -200,7 +198,7 @@ written_accepted s c b p checked =
     let (fit, _) = unless_passed (levels_fit c b p) _ _ h in
     let divided = eqb-true (length s % 4) 0 whole in
     let fits = fits_by s c (leb-true c.edition last_edition (second (leb 1 c.edition) _ edition)) (in_range_lem c (length s / 4) range) in
-    let same : file_check (file_of s c (b ++ p)) ≡ Check.Passed = same_check s c b p fits fit ∙ checked in
+    let same : file_check (file_of s c (b ++ p)) ≡ Ok tt = same_check s c b p fits fit ∙ checked in
     let trailer = written_trailer s c (b ++ p) fits in
     let records = written_bytes s c (b ++ p) fits divided in
     let levels = written_levels s c (b ++ p) fits (levels_many c b p fit) divided in
@@ -305,13 +303,13 @@ own_joined f = take-append-drop (start_count (trailer_of f).counts) (level_bytes
 -- ---- the theorems
 
 -- writing answers a length only where its check passes
-pub written_by_lem : (k : Check) (m n : ℕ) → written_by m k ≡ Written.Length n → (k ≡ Check.Passed) × (n ≡ m)
-written_by_lem Check.Passed m n q = (refl, cc)
-written_by_lem (Check.Failed r) m n q = let z : ◌≡◌ {A = ℕ} 0 1 = cc in absurd (omega arith)
+pub written_by_lem : (k : Check) (m n : ℕ) → written_by m k ≡ Ok n → (k ≡ Ok tt) × (n ≡ m)
+written_by_lem (Ok tt) m n q = (refl, cc)
+written_by_lem (Err r) m n q = let z : ◌≡◌ {A = ℕ} 0 1 = cc in absurd (omega arith)
 
-read_written : (s : List ℕ) (c : Counts) (b p out : List ℕ) (n : ℕ) → written_of s c b p out ≡ Written.Length n
+read_written : (s : List ℕ) (c : Counts) (b p out : List ℕ) (n : ℕ) → written_of s c b p out ≡ Ok n
     → (n ≡ length (file_of s c (b ++ p))) × (out_after_writing s c b p out ≡ file_of s c (b ++ p) ++ drop n out)
-    × (reading_of (file_of s c (b ++ p)) ≡ Reading.Accepted (record { start = 0; records = length s / 4; counts = c }))
+    × (reading_of (file_of s c (b ++ p)) ≡ Ok (record { start = 0; records = length s / 4; counts = c }))
     × (records_of (file_of s c (b ++ p)) ≡ s) × (starts_of (file_of s c (b ++ p)) ≡ b) × (posts_of (file_of s c (b ++ p)) ≡ p)
 unfolding written_of writing_check out_after_writing
 read_written s c b p out n q =
@@ -320,8 +318,8 @@ read_written s c b p out n q =
     let (accepted, records, starts, posts, _) = written_accepted s c b p checked in
     (long ∙ sym (file_length_lem s c (b ++ p)), rw (passed, long), accepted, records, starts, posts)
 
-write_read : (f : List ℕ) → Bytes f → (h : Trailer) → reading_of f ≡ Reading.Accepted h → h.start ≡ 0 → (out : List ℕ) → length f ≤ length out
-    → (written_of (records_of f) h.counts (starts_of f) (posts_of f) out ≡ Written.Length (length f))
+write_read : (f : List ℕ) → Bytes f → (h : Trailer) → reading_of f ≡ Ok h → h.start ≡ 0 → (out : List ℕ) → length f ≤ length out
+    → (written_of (records_of f) h.counts (starts_of f) (posts_of f) out ≡ Ok (length f))
     × (out_after_writing (records_of f) h.counts (starts_of f) (posts_of f) out ≡ f ++ drop (length f) out)
 unfolding records_of starts_of posts_of reading_of written_of out_after_writing writing_check
 write_read f bytes h q none out room =
@@ -334,7 +332,7 @@ write_read f bytes h q none out room =
     let p = (recording_of f).levels.posts in
     let again : file_of s c (b ++ p) ≡ f = ap (file_of s c) (own_joined f) ∙ written_again f bytes ok (ap (λ (x : Trailer). x.start) own ∙ none) in
     let n = sym (file_length_lem s c (b ++ p)) ∙ ap length again in
-    let checked : records_check s c b p ≡ Check.Passed = sym (same_check s c b p (fits_of f ok) (own_levels f ok)) ∙ ap file_check again ∙ passed in
+    let checked : records_check s c b p ≡ Ok tt = sym (same_check s c b p (fits_of f ok) (own_levels f ok)) ∙ ap file_check again ∙ passed in
     let roomy : leb (file_length s (b ++ p)) (length out) ≡ true = le-leb (file_length s (b ++ p)) (length out) (omega arith) in
     rw (passed, sym own, checked, roomy, n, again) (refl, refl)
 

@@ -1,19 +1,14 @@
 -- The rows: each computes.
 -- Assumes nothing.
 use Prim.Native.Nat.{ℕ, ◌*◌}
+use Rattle.std.specs.Prelude.{Result, Ok, Err}
 use mathlib.Core.Path.{◌≡◌, refl, ap₂, ◌∙◌}
 use mathlib.Core.List.{List, [], ◌++◌}
 use lib.Dec.{leb}
 use lib.ListN.{length, replicate, length-replicate}
-use Rattle.model.specs.declared.Check.{Check}
+use Rattle.model.specs.Refusals.{Check, number_of, record_of, pairs_of, differing_task, differing_position, unless, and_then}
 use Rattle.model.specs.declared.Refusal.{Refusal}
-use Rattle.model.specs.declared.Reading.{Reading}
-use Rattle.model.specs.declared.Analysis.{Analysis}
 use Rattle.model.specs.declared.Relation.{Relation}
-use Rattle.model.specs.declared.Answer.{Answer}
-use Rattle.model.specs.declared.Written.{Written}
-use Rattle.model.specs.declared.Joint.{Joint}
-use Rattle.model.specs.Refusals.{number_of, record_of, pairs_of, differing_task, differing_position, unless, and_then}
 use Rattle.model.specs.Recording.{size, tasks}
 use Rattle.model.specs.File.{recording_of}
 use Rattle.model.specs.Reading.{file_check}
@@ -40,34 +35,34 @@ use Rattle.model.proofs.Computing.{rows, refusal}
 pub faults : Faults
 unfolding rows
 faults = record {
-  edition_before_extent = refusal Reading.Refused Refusal.Edition;
-  extent_before_count = refusal Reading.Refused Refusal.Extent;
-  count_before_records = refusal Reading.Refused Refusal.Count;
-  first_record = refusal Reading.Refused (Refusal.Empty 0);
-  kind_before_name = refusal Reading.Refused (Refusal.Kind 0);
-  name_before_life = refusal Reading.Refused (Refusal.Name 0);
-  life_before_empty = refusal Reading.Refused (Refusal.Life 2);
-  kind_0 = refusal Reading.Refused (Refusal.Kind 1);
-  kind_7 = refusal Reading.Refused (Refusal.Kind 1);
+  edition_before_extent = refusal Refusal.Edition;
+  extent_before_count = refusal Refusal.Extent;
+  count_before_records = refusal Refusal.Count;
+  first_record = refusal (Refusal.Empty 0);
+  kind_before_name = refusal (Refusal.Kind 0);
+  name_before_life = refusal (Refusal.Name 0);
+  life_before_empty = refusal (Refusal.Life 2);
+  kind_0 = refusal (Refusal.Kind 1);
+  kind_7 = refusal (Refusal.Kind 1);
   names = refl;
-  task_3 = refusal Reading.Refused (Refusal.Name 0);
-  signal_1 = refusal Reading.Refused (Refusal.Name 0);
-  wait_1 = refusal Reading.Refused (Refusal.Name 0);
-  fork_3 = refusal Reading.Refused (Refusal.Name 0);
-  join_3 = refusal Reading.Refused (Refusal.Name 0);
-  read_2 = refusal Reading.Refused (Refusal.Name 0);
-  write_2 = refusal Reading.Refused (Refusal.Name 0);
+  task_3 = refusal (Refusal.Name 0);
+  signal_1 = refusal (Refusal.Name 0);
+  wait_1 = refusal (Refusal.Name 0);
+  fork_3 = refusal (Refusal.Name 0);
+  join_3 = refusal (Refusal.Name 0);
+  read_2 = refusal (Refusal.Name 0);
+  write_2 = refusal (Refusal.Name 0);
   no_cells = refl;
-  joined_goes_on = refusal Reading.Refused (Refusal.Life 2);
-  forks_itself = refusal Reading.Refused (Refusal.Life 0);
-  forked_twice = refusal Reading.Refused (Refusal.Life 1);
-  forked_late = refusal Reading.Refused (Refusal.Life 1);
-  joins_itself = refusal Reading.Refused (Refusal.Life 1);
-  joined_unforked = refusal Reading.Refused (Refusal.Life 1);
-  joined_twice = refusal Reading.Refused (Refusal.Life 2);
-  waits_twice = refusal Reading.Refused (Refusal.Empty 2);
-  waits_early = refusal Reading.Refused (Refusal.Empty 0);
-  waits_on_another = refusal Reading.Refused (Refusal.Empty 1);
+  joined_goes_on = refusal (Refusal.Life 2);
+  forks_itself = refusal (Refusal.Life 0);
+  forked_twice = refusal (Refusal.Life 1);
+  forked_late = refusal (Refusal.Life 1);
+  joins_itself = refusal (Refusal.Life 1);
+  joined_unforked = refusal (Refusal.Life 1);
+  joined_twice = refusal (Refusal.Life 2);
+  waits_twice = refusal (Refusal.Empty 2);
+  waits_early = refusal (Refusal.Empty 0);
+  waits_on_another = refusal (Refusal.Empty 1);
   served_twice = refl;
 }
 
@@ -90,7 +85,7 @@ parts = record {
   flagged_records = refl;
   flagged_starts = refl;
   flagged_posts = refl;
-  broken_read = refusal Reading.Refused (Refusal.Empty 0);
+  broken_read = refusal (Refusal.Empty 0);
   broken_preamble = refl;
   broken_records = refl;
   broken_starts = refl;
@@ -159,76 +154,76 @@ single = record {
   read_plain_read = (refl, refl);
   among_three = (refl, refl);
   kinds = refl;
-  kind_9_edition_1 = refusal Reading.Refused (Refusal.Kind 0);
-  kind_10_edition_1 = refusal Reading.Refused (Refusal.Kind 0);
-  kind_9_edition_2 = refusal Reading.Refused (Refusal.Kind 0);
-  kind_10_edition_2 = refusal Reading.Refused (Refusal.Kind 0);
-  kind_11 = refusal Reading.Refused (Refusal.Kind 0);
+  kind_9_edition_1 = refusal (Refusal.Kind 0);
+  kind_10_edition_1 = refusal (Refusal.Kind 0);
+  kind_9_edition_2 = refusal (Refusal.Kind 0);
+  kind_10_edition_2 = refusal (Refusal.Kind 0);
+  kind_11 = refusal (Refusal.Kind 0);
   kind_10_written = refl;
-  kind_10_edition_2_written = refusal Written.Refused (Refusal.Kind 0);
-  kind_11_written = refusal Written.Refused (Refusal.Kind 0);
-  cell_1_read = refusal Reading.Refused (Refusal.Name 0);
-  cell_1_written = refusal Reading.Refused (Refusal.Name 0);
+  kind_10_edition_2_written = refusal (Refusal.Kind 0);
+  kind_11_written = refusal (Refusal.Kind 0);
+  cell_1_read = refusal (Refusal.Name 0);
+  cell_1_written = refusal (Refusal.Name 0);
 }
 
 pub table : Table
 unfolding rows
 table = record {
-  short = refusal Reading.Refused Refusal.Short;
-  edition = refusal Reading.Refused Refusal.Edition;
-  extent = refusal Reading.Refused Refusal.Extent;
-  count = refusal Reading.Refused Refusal.Count;
-  kind = refusal Reading.Refused (Refusal.Kind 1);
-  name = refusal Reading.Refused (Refusal.Name 1);
-  life = refusal Reading.Refused (Refusal.Life 1);
-  empty = refusal Reading.Refused (Refusal.Empty 1);
-  work = refusal Analysis.Refused Refusal.Work;
-  work_3 = refusal Analysis.Refused Refusal.Work;
-  work_asked = refusal Answer.Refused Refusal.Work;
-  list = refusal Analysis.Refused (Refusal.List 1);
-  list_3 = refusal Analysis.Refused (Refusal.List 3);
-  event_a = refusal Answer.Refused Refusal.Event;
-  event_b = refusal Answer.Refused Refusal.Event;
-  event_same = refusal Answer.Refused Refusal.Event;
-  out = refusal Written.Refused Refusal.Out;
-  out_starts = refusal Written.Refused Refusal.Out;
-  out_posts = refusal Written.Refused Refusal.Out;
-  starts = refusal Written.Refused Refusal.Starts;
-  starts_more = refusal Written.Refused Refusal.Starts;
-  starts_edition_1 = refusal Written.Refused Refusal.Starts;
-  starts_edition_3 = refusal Written.Refused Refusal.Starts;
-  starts_more_edition_3 = refusal Written.Refused Refusal.Starts;
-  posts = refusal Written.Refused Refusal.Starts;
-  posts_more = refusal Written.Refused Refusal.Starts;
-  posts_as_starts = refusal Written.Refused Refusal.Starts;
-  posts_edition_1 = refusal Written.Refused Refusal.Starts;
-  posts_edition_2 = refusal Written.Refused Refusal.Starts;
-  flag = refusal Reading.Refused (Refusal.Flag 1);
-  edition_0_written = refusal Written.Refused Refusal.Edition;
-  edition_4_written = refusal Written.Refused Refusal.Edition;
-  extent_written = refusal Written.Refused Refusal.Extent;
-  count_written = refusal Written.Refused Refusal.Count;
-  flags_written = refusal Written.Refused Refusal.Count;
-  kind_written = refusal Written.Refused (Refusal.Kind 1);
-  empty_written = refusal Written.Refused (Refusal.Empty 1);
-  flag_written = refusal Written.Refused (Refusal.Flag 1);
-  post_0 = refusal Written.Refused Refusal.Count;
-  post_0_edition_2 = refusal Written.Refused Refusal.Count;
-  post_0_edition_1 = refusal Written.Refused Refusal.Count;
-  file_before_work = refusal Analysis.Refused (Refusal.Life 0);
-  file_before_event = refusal Answer.Refused (Refusal.Life 0);
-  event_before_work = refusal Answer.Refused Refusal.Event;
-  work_before_list = refusal Analysis.Refused Refusal.Work;
-  edition_before_extent = refusal Written.Refused Refusal.Edition;
-  extent_before_count = refusal Written.Refused Refusal.Extent;
-  extent_before_post = refusal Written.Refused Refusal.Extent;
-  extent_before_kind = refusal Written.Refused Refusal.Extent;
-  count_before_starts = refusal Written.Refused Refusal.Count;
-  post_before_starts = refusal Written.Refused Refusal.Count;
-  starts_before_record = refusal Written.Refused Refusal.Starts;
-  posts_before_record = refusal Written.Refused Refusal.Starts;
-  record_before_out = refusal Written.Refused (Refusal.Life 0);
-  flag_before_out = refusal Written.Refused (Refusal.Flag 0);
+  short = refusal Refusal.Short;
+  edition = refusal Refusal.Edition;
+  extent = refusal Refusal.Extent;
+  count = refusal Refusal.Count;
+  kind = refusal (Refusal.Kind 1);
+  name = refusal (Refusal.Name 1);
+  life = refusal (Refusal.Life 1);
+  empty = refusal (Refusal.Empty 1);
+  work = refusal Refusal.Work;
+  work_3 = refusal Refusal.Work;
+  work_asked = refusal Refusal.Work;
+  list = refusal (Refusal.List 1);
+  list_3 = refusal (Refusal.List 3);
+  event_a = refusal Refusal.Event;
+  event_b = refusal Refusal.Event;
+  event_same = refusal Refusal.Event;
+  out = refusal Refusal.Out;
+  out_starts = refusal Refusal.Out;
+  out_posts = refusal Refusal.Out;
+  starts = refusal Refusal.Starts;
+  starts_more = refusal Refusal.Starts;
+  starts_edition_1 = refusal Refusal.Starts;
+  starts_edition_3 = refusal Refusal.Starts;
+  starts_more_edition_3 = refusal Refusal.Starts;
+  posts = refusal Refusal.Starts;
+  posts_more = refusal Refusal.Starts;
+  posts_as_starts = refusal Refusal.Starts;
+  posts_edition_1 = refusal Refusal.Starts;
+  posts_edition_2 = refusal Refusal.Starts;
+  flag = refusal (Refusal.Flag 1);
+  edition_0_written = refusal Refusal.Edition;
+  edition_4_written = refusal Refusal.Edition;
+  extent_written = refusal Refusal.Extent;
+  count_written = refusal Refusal.Count;
+  flags_written = refusal Refusal.Count;
+  kind_written = refusal (Refusal.Kind 1);
+  empty_written = refusal (Refusal.Empty 1);
+  flag_written = refusal (Refusal.Flag 1);
+  post_0 = refusal Refusal.Count;
+  post_0_edition_2 = refusal Refusal.Count;
+  post_0_edition_1 = refusal Refusal.Count;
+  file_before_work = refusal (Refusal.Life 0);
+  file_before_event = refusal (Refusal.Life 0);
+  event_before_work = refusal Refusal.Event;
+  work_before_list = refusal Refusal.Work;
+  edition_before_extent = refusal Refusal.Edition;
+  extent_before_count = refusal Refusal.Extent;
+  extent_before_post = refusal Refusal.Extent;
+  extent_before_kind = refusal Refusal.Extent;
+  count_before_starts = refusal Refusal.Count;
+  post_before_starts = refusal Refusal.Count;
+  starts_before_record = refusal Refusal.Starts;
+  posts_before_record = refusal Refusal.Starts;
+  record_before_out = refusal (Refusal.Life 0);
+  flag_before_out = refusal (Refusal.Flag 0);
   a_first = (Relation.First, refl, refl);
   b_first = (Relation.Second, refl, refl);
   is_open = (Relation.Open, refl, refl);
@@ -276,8 +271,8 @@ check_by_lengths : List ℕ → ℕ → ℕ → Check
 check_by_lengths f m n =
     let E = recording_of f in
     let pairs = length (listed E (budget_of E)) in
-    and_then (and_then (file_check f) λ _. unless (leb (2 * (size E * tasks E)) m) Refusal.Work λ _. Check.Passed) λ _.
-    unless (leb (3 * pairs) n) (Refusal.List pairs) λ _. Check.Passed
+    and_then (and_then (file_check f) λ _. unless (leb (2 * (size E * tasks E)) m) Refusal.Work λ _. Ok tt) λ _.
+    unless (leb (3 * pairs) n) (Refusal.List pairs) λ _. Ok tt
 
 report_by_lengths : List ℕ → ℕ → ℕ → List ℕ
 report_by_lengths f m n = if_long (is_long f) (bytes "too long\n") λ _. let E = recording_of f in report_by E (budget_of E) (check_by_lengths f m n)
@@ -353,8 +348,8 @@ joined = record {
   f = (refl, refl);
   g = (refl, refl);
   h = (refl, refl);
-  i = refusal Joint.Refused (Refusal.Life 0);
-  j = refusal Joint.Refused (Refusal.Empty 0);
+  i = refusal (Refusal.Life 0);
+  j = refusal (Refusal.Empty 0);
   sure_by_second = (refl, refl);
   sure_by_first = (refl, refl);
   flag_by_second = (refl, refl);
@@ -383,12 +378,12 @@ joined = record {
   own_order = differ 0 1;
   lowest_task = differ 1 1;
   tasks_swapped = differ 0 1;
-  work_first = refusal Joint.Refused Refusal.Work;
-  work_second = refusal Joint.Refused Refusal.Work;
-  list = refusal Joint.Refused (Refusal.List 1);
-  first_before_second = refusal Joint.Refused (Refusal.Life 0);
-  second_before_differ = refusal Joint.Refused (Refusal.Empty 0);
-  work_before_list = refusal Joint.Refused Refusal.Work;
+  work_first = refusal Refusal.Work;
+  work_second = refusal Refusal.Work;
+  list = refusal (Refusal.List 1);
+  first_before_second = refusal (Refusal.Life 0);
+  second_before_differ = refusal (Refusal.Empty 0);
+  work_before_list = refusal Refusal.Work;
   first_work = refl;
   second_work = refl;
   entries = refl;
@@ -404,7 +399,7 @@ joined = record {
 }
   where
     -- 14 at this task and position
-    differ : (t p : ℕ) → (r : Refusal) × (Joint.Refused (Refusal.Differ t p) ≡ Joint.Refused r) × (number_of r ≡ 14) × (record_of r ≡ 0) × (differing_task r ≡ t) × (differing_position r ≡ p)
+    differ : (t p : ℕ) → (r : Refusal) × (◌≡◌ {A = Result ℕ Refusal} (Err (Refusal.Differ t p)) (Err r)) × (number_of r ≡ 14) × (record_of r ≡ 0) × (differing_task r ≡ t) × (differing_position r ≡ p)
     differ t p = (Refusal.Differ t p, refl, refl, refl, refl, refl)
 
 pub turned : Turned
@@ -433,20 +428,20 @@ turned = record {
   flag_open = unsure;
   one_task = unsure;
   one_task_turned = unsure;
-  event_chosen = refusal Written.Refused Refusal.Event;
-  event_other = refusal Written.Refused Refusal.Event;
-  event_same = refusal Written.Refused Refusal.Event;
-  work_short = refusal Written.Refused Refusal.Work;
-  out_short = refusal Written.Refused Refusal.Out;
+  event_chosen = refusal Refusal.Event;
+  event_other = refusal Refusal.Event;
+  event_same = refusal Refusal.Event;
+  work_short = refusal Refusal.Work;
+  out_short = refusal Refusal.Out;
   out_fits = refl;
-  out_short_starts = refusal Written.Refused Refusal.Out;
+  out_short_starts = refusal Refusal.Out;
   out_fits_starts = refl;
-  out_short_posts = refusal Written.Refused Refusal.Out;
+  out_short_posts = refusal Refusal.Out;
   out_fits_posts = refl;
-  file_before_event = refusal Written.Refused (Refusal.Life 0);
-  event_before_work = refusal Written.Refused Refusal.Event;
-  work_before_unsure = refusal Written.Refused Refusal.Work;
-  unsure_before_out = refusal Written.Refused Refusal.Unsure;
+  file_before_event = refusal (Refusal.Life 0);
+  event_before_work = refusal Refusal.Event;
+  work_before_unsure = refusal Refusal.Work;
+  unsure_before_out = refusal Refusal.Unsure;
   work_left = refl;
   work_unsure = refl;
   work_left_analysed = refl;
@@ -463,6 +458,6 @@ turned = record {
   out_kept = refl;
 }
   where
-    unsure : (r : Refusal) × (Written.Refused Refusal.Unsure ≡ Written.Refused r)
+    unsure : (r : Refusal) × (◌≡◌ {A = Result ℕ Refusal} (Err Refusal.Unsure) (Err r))
         × (number_of r ≡ 15) × (record_of r ≡ 0) × (pairs_of r ≡ 0) × (differing_task r ≡ 0) × (differing_position r ≡ 0)
     unsure = (Refusal.Unsure, refl, refl, refl, refl, refl, refl)

@@ -2,6 +2,7 @@
 -- is admissible, so that reading accepts it; and the pairs that are answered so are those that the recorded vectors do not order.
 -- Assumes nothing.
 use Prim.Native.Nat.{ℕ, ◌≤◌, ◌<◌}
+use Rattle.std.specs.Prelude.{Ok}
 use mathlib.Core.Path.{◌≡◌, sym, ap, subst, ◌∙◌}
 use mathlib.Core.Bool.{true, not}
 use mathlib.Core.List.{List, ◌++◌}
@@ -9,9 +10,6 @@ use native.Mathlib.Omega.{arith}
 use lib.Dec.{ltb, eqb}
 use lib.ListN.{length, take, drop}
 use lib.Seq.{take_at, drop_at}
-use Rattle.model.specs.declared.Check.{Check}
-use Rattle.model.specs.declared.Reading.{Reading}
-use Rattle.model.specs.declared.Written.{Written}
 use Rattle.model.specs.Recording.{size, event, Accepted}
 use Rattle.model.specs.File.{trailer_of, record_bytes, level_bytes, recording_by, recording_of}
 use Rattle.model.specs.Reading.{file_check, reading_of}
@@ -58,7 +56,7 @@ module _ (f : List ℕ) (ok : Sound f) (x : ℕ) (inside : x < size (recording_o
       file_length_lem (records_in s (order f x)) (trailer_of f).counts (level_bytes f (trailer_of f)) ∙ omega arith
 
   -- and reading accepts them in this order
-  accepted : (reading_of (reversed_file f x) ≡ Reading.Accepted (record { start = 0; records = length (order f x); counts = (trailer_of f).counts }))
+  accepted : (reading_of (reversed_file f x) ≡ Ok (record { start = 0; records = length (order f x); counts = (trailer_of f).counts }))
       × (recording_of (reversed_file f x) ≡ in_order (recording_of f) (order f x))
   unfolding reversed_file recording_of
   accepted =
@@ -69,7 +67,7 @@ module _ (f : List ℕ) (ok : Sound f) (x : ℕ) (inside : x < size (recording_o
       let p = (recording_of f).levels.posts in
       subst
       (λ (l : List ℕ).
-      (reading_of (file_in s (order f x) c l) ≡ Reading.Accepted (record { start = 0; records = length (order f x); counts = c }))
+      (reading_of (file_in s (order f x) c l) ≡ Ok (record { start = 0; records = length (order f x); counts = c }))
       × (recording_of (file_in s (order f x) c l) ≡ in_order (recording_by s c l) (order f x)))
       (own_joined f)
       (accepted_in s (order f x) within c b p (known c ok.some_edition ok.no_later)
@@ -80,7 +78,7 @@ module _ (f : List ℕ) (ok : Sound f) (x : ℕ) (inside : x < size (recording_o
   shows : (y : ℕ) → Free (recording_of f) x y → Shows f x y (reversed_file f x)
   shows y r =
       record {
-        accepted = accepted.0 ∙ ap (λ (k : ℕ). Reading.Accepted (record { start = 0; records = k; counts = (trailer_of f).counts })) order_length;
+        accepted = accepted.0 ∙ ap (λ (k : ℕ). Ok (record { start = 0; records = k; counts = (trailer_of f).counts })) order_length;
         order = order f x;
         holds = accepted.1;
         admissible = admissible;
@@ -91,7 +89,7 @@ module _ (f : List ℕ) (ok : Sound f) (x : ℕ) (inside : x < size (recording_o
 
 module _ (f : List ℕ) (x y : ℕ) (work out : List ℕ) where
   -- where its check passes, the recorded vectors do not order the two events
-  passed : reversed_check f x y work out ≡ Check.Passed → Sound f × Free (recording_of f) x y
+  passed : reversed_check f x y work out ≡ Ok tt → Sound f × Free (recording_of f) x y
   unfolding reversed_check question_check asked_check
   passed h =
       let E = recording_of f in
@@ -104,8 +102,8 @@ module _ (f : List ℕ) (x y : ℕ) (work out : List ℕ) where
       (sound f file, r)
 
   -- and where they do not, and the memory is large enough, it answers the length
-  answers : file_check f ≡ Check.Passed → Free (recording_of f) x y → work_fits (recording_of f) work ≡ true → reversed_length f ≤ length out
-      → reversed_of f x y work out ≡ Written.Length (reversed_length f)
+  answers : file_check f ≡ Ok tt → Free (recording_of f) x y → work_fits (recording_of f) work ≡ true → reversed_length f ≤ length out
+      → reversed_of f x y work out ≡ Ok (reversed_length f)
   unfolding reversed_of reversed_check question_check asked_check
   answers file r fits room =
       let n = size (recording_of f) in
@@ -113,8 +111,8 @@ module _ (f : List ℕ) (x y : ℕ) (work out : List ℕ) where
       both (both (lt-ltb x n r.first_inside) (lt-ltb y n r.second_inside)) (to_not (ne_eqb x y r.apart)) in
       rw (file, two, fits, r.free, le-leb _ _ room)
 
-  module _ (n : ℕ) (q : reversed_of f x y work out ≡ Written.Length n) where
-    answered : (reversed_check f x y work out ≡ Check.Passed) × (n ≡ reversed_length f)
+  module _ (n : ℕ) (q : reversed_of f x y work out ≡ Ok n) where
+    answered : (reversed_check f x y work out ≡ Ok tt) × (n ≡ reversed_length f)
     unfolding reversed_of
     answered = written_by_lem (reversed_check f x y work out) (reversed_length f) n q
 

@@ -2,6 +2,7 @@
 -- have the same name. They are the same work exactly where comparing them passes.
 -- Assumes nothing.
 use Prim.Native.Nat.{ℕ}
+use Rattle.std.specs.Prelude.{Option, Some, None}
 use mathlib.Core.Path.{◌≡◌, refl, sym, ap, ap₂, subst, fun_ext, ◌∙◌}
 use mathlib.Core.Bool.{Bool, true, not, ◌&&◌}
 use mathlib.Core.List.{List}
@@ -9,7 +10,6 @@ use native.Mathlib.Nat.{le_refl}
 use native.Mathlib.Omega.{arith}
 use lib.Dec.{leb, eqb}
 use Rattle.model.specs.declared.Event.{Event}
-use Rattle.model.specs.declared.Found.{Found}
 use Rattle.model.specs.Numbers.{flat_map}
 use Rattle.model.specs.Recording.{Recording, tasks, cells, task_of, object_of, Accepted}
 use Rattle.model.specs.File.{recording_of}
@@ -32,8 +32,8 @@ use Rattle.model.proofs.JointPromise.{joint_promise}
 -- ---- vectors by name
 
 -- a name finds twins
-found_twin : (E F : Recording) → SameWork E F → (t p a : ℕ) → at_position E.events t p ≡ Found.At a
-    → (x : ℕ) × Twins E F a x × (at_position F.events t p ≡ Found.At x)
+found_twin : (E F : Recording) → SameWork E F → (t p a : ℕ) → at_position E.events t p ≡ Some a
+    → (x : ℕ) × Twins E F a x × (at_position F.events t p ≡ Some x)
 found_twin E F same t p a q =
     let (l, u, v) = named_of E.events t p a q in
     let (x, w) = twin_of E.events F.events same.records a l in
@@ -44,14 +44,14 @@ number_named : (E F : Recording) → SameWork E F → (X Y : Vectors) → Matchi
     → (t p u : ℕ) → number_at E X t p u ≡ number_at F Y t p u
 number_named E F same X Y alike t p u = go (at_position E.events t p) (at_position F.events t p) refl refl
   where
-    go : (m n : Found) → at_position E.events t p ≡ m → at_position F.events t p ≡ n → number_found X m u ≡ number_found Y n u
-    go Found.Nothing Found.Nothing q r = refl
-    go Found.Nothing (Found.At x) q r =
+    go : (m n : Option ℕ) → at_position E.events t p ≡ m → at_position F.events t p ≡ n → number_found X m u ≡ number_found Y n u
+    go None None q r = refl
+    go None (Some x) q r =
         let (a, w, f) = found_twin F E (same_sym E F same) t p x r in
         let z : ◌≡◌ {A = ℕ} 0 1 = cc in absurd (omega arith)
-    go (Found.At a) n q r =
+    go (Some a) n q r =
         let (x, w, f) = found_twin E F same t p a q in
-        subst (λ (n : Found). number X a u ≡ number_found Y n u) (sym f ∙ r) (alike a x u w)
+        subst (λ (n : Option ℕ). number X a u ≡ number_found Y n u) (sym f ∙ r) (alike a x u w)
 
 -- ---- pairs by name
 

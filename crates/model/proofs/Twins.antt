@@ -2,6 +2,7 @@
 -- same records in the same order in both, each event has a twin and no second, and the two task orders are twins place by place.
 -- Assumes nothing.
 use Prim.Native.Nat.{ℕ, suc, ◌≤◌, ◌<◌}
+use Rattle.std.specs.Prelude.{Some}
 use mathlib.Core.Path.{◌≡◌, refl, sym, ap, ap₂, subst, subst₂, ◌∙◌}
 use mathlib.Core.Bool.{Bool, true, ◌&&◌}
 use mathlib.Core.List.{List}
@@ -9,7 +10,6 @@ use native.Mathlib.Omega.{arith}
 use lib.Dec.{eqb}
 use lib.ListN.{length, get_or, length-map}
 use Rattle.model.specs.declared.Event.{Event}
-use Rattle.model.specs.declared.Found.{Found}
 use Rattle.model.specs.Numbers.{tally}
 use Rattle.model.specs.Recording.{no_event, event_in, of_task, is_on}
 use Rattle.model.specs.Vectors.{position}
@@ -43,7 +43,7 @@ module _ (l : List Event) (t : ℕ) where
 -- ---- names
 
 -- the event that a name finds
-pub named_of : (l : List Event) (t p a : ℕ) → at_position l t p ≡ Found.At a → (a < length l) × ((event_in l a).task ≡ t) × (position l a ≡ p)
+pub named_of : (l : List Event) (t p a : ℕ) → at_position l t p ≡ Some a → (a < length l) × ((event_in l a).task ≡ t) × (position l a ≡ p)
 unfolding at_position
 named_of l t p a q =
     let r = last_some (λ e. of_task t (event_in l e) && eqb (position l e) p) (length l) a q in
@@ -52,13 +52,13 @@ named_of l t p a q =
     (r.inside, eqb-true (event_in l a).task t own, eqb-true (position l a) p here)
 
 -- an event is found by its name
-pub finds : (l : List Event) (t p a : ℕ) → a < length l → (event_in l a).task ≡ t → position l a ≡ p → at_position l t p ≡ Found.At a
+pub finds : (l : List Event) (t p a : ℕ) → a < length l → (event_in l a).task ≡ t → position l a ≡ p → at_position l t p ≡ Some a
 unfolding at_position
 finds l t p a k u v =
     let here = both (eq-eqb _ _ u) (eq-eqb _ _ v) in
     let (z, q, r, h) = last_found (λ e. of_task t (event_in l e) && eqb (position l e) p) (length l) a k here in
     let (i, j, n) = named_of l t p z q in
-    q ∙ ap (λ (c : ℕ). Found.At c) (position_one l z a (j ∙ sym u) (n ∙ sym v))
+    q ∙ ap (λ (c : ℕ). Some c) (position_one l z a (j ∙ sym u) (n ∙ sym v))
 
 -- ---- twins
 

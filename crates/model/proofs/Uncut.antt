@@ -1,6 +1,7 @@
 -- The program's report is never cut off: a line has few bytes, and an accepted file has few entries.
 -- Assumes nothing.
 use Prim.Native.Nat.{ℕ, zero, suc, ◌+◌, ◌*◌, ◌/◌, ◌^◌, ◌≤◌, ◌<◌, zero-le}
+use Rattle.std.specs.Prelude.{Ok, Err}
 use mathlib.Core.Path.{◌≡◌, refl}
 use mathlib.Core.Logic.{inl}
 use mathlib.Core.Bool.{Bool, true, false}
@@ -10,9 +11,8 @@ use native.Mathlib.Omega.{arith}
 use lib.Dec.{ltb, eqb}
 use lib.ListN.{length, take, length-append}
 use lib.Seq.{take_all, take-append_seam}
-use Rattle.model.specs.declared.Check.{Check}
+use Rattle.model.specs.Refusals.{Check, number_of, record_of}
 use Rattle.model.specs.declared.Refusal.{Refusal}
-use Rattle.model.specs.Refusals.{number_of, record_of}
 use Rattle.model.specs.Recording.{Recording, size, tasks, cells, object_of}
 use Rattle.model.specs.File.{recording_of}
 use Rattle.model.specs.Reading.{file_check, most_cells, most_events}
@@ -113,8 +113,8 @@ text_length E n c budget =
 -- ---- the report
 
 -- analysing passes only a file that is accepted, with a list that its pairs fit in
-pub analysis_passed : (f : List ℕ) (budget : ℕ) (work list : List ℕ) → analysis_check f budget work list ≡ Check.Passed
-    → (file_check f ≡ Check.Passed) × (3 * length (listed (recording_of f) budget) ≤ length list)
+pub analysis_passed : (f : List ℕ) (budget : ℕ) (work list : List ℕ) → analysis_check f budget work list ≡ Ok tt
+    → (file_check f ≡ Ok tt) × (3 * length (listed (recording_of f) budget) ≤ length list)
 unfolding analysis_check work_check
 analysis_passed f budget work list q =
     let (w, l) = then_passed _ _ q in
@@ -123,14 +123,14 @@ analysis_passed f budget work list q =
 fits_by : (f : List ℕ) (budget : ℕ) (work list : List ℕ) → length list ≡ list_numbers → (c : Check) → analysis_check f budget work list ≡ c
     → length (report_by (recording_of f) budget c) ≤ out_bytes
 unfolding recording_of
-fits_by f budget work list n Check.Passed q =
+fits_by f budget work list n (Ok tt) q =
     let (p, pairs) = analysis_passed f budget work list q in
     let s = sound f p in
     let e = size_records f s in
     let r = s.range in
     let x = text_length (recording_of f) (omega arith) r.few_cells budget in
     omega arith
-fits_by f budget work list n (Check.Failed r) q = let x = refusal_length r in omega arith
+fits_by f budget work list n (Err r) q = let x = refusal_length r in omega arith
 
 fits : (f work list : List ℕ) → length list ≡ list_numbers → length (report_of f work list) ≤ out_bytes
 unfolding report_of bytes

@@ -2,6 +2,7 @@
 -- start count or post count is given beyond the semaphores or the flags.
 -- Assumes nothing.
 use Prim.Native.Nat.{ℕ, zero, suc, ◌+◌, ◌*◌, ◌≤◌, ◌<◌, zero-le}
+use Rattle.std.specs.Prelude.{Ok}
 use mathlib.Core.Path.{◌≡◌, refl, sym, ap, ap₂, subst, ◌∙◌}
 use mathlib.Core.Bool.{Bool, true, false, cond, ◌&&◌}
 use mathlib.Core.Logic.{◌↔◌}
@@ -12,7 +13,6 @@ use native.Mathlib.Omega.{arith}
 use lib.Dec.{ltb, eqb}
 use lib.ListN.{length, get_or, drop, length-take, length-drop, get_or-eq_default}
 use Rattle.model.specs.declared.Event.{Event}
-use Rattle.model.specs.declared.Check.{Check}
 use Rattle.model.specs.Numbers.{picked}
 use Rattle.model.specs.Recording.{Recording, size, tasks, event, event_in, task_of, of_task, semaphores_of, flags_of, Accepted}
 use Rattle.model.specs.File.{trailer_of, start_count, level_count, level_bytes, recording_of}
@@ -90,7 +90,7 @@ no_records E acc t h =
 
 -- records of one task whose kinds and objects are the same
 records_same : (t p : ℕ) (l m : List Event) → ((v : Event) → Memᴰ v l → v.task ≡ t) → ((v : Event) → Memᴰ v m → v.task ≡ t)
-    → records_alike t p l m ≡ Check.Passed → l ≡ m
+    → records_alike t p l m ≡ Ok tt → l ≡ m
 unfolding records_alike
 records_same t p [] [] h k q = refl
 records_same t p [] (w ∷ m) h k q = failed_passed _ q
@@ -105,14 +105,14 @@ records_same t p (v ∷ l) (w ∷ m) h k q =
     one_event : (v w : Event) → v.task ≡ w.task → v.kind ≡ w.kind → v.object ≡ w.object → v ≡ w
     one_event v w a b c = λ i. record { task = a i; kind = b i; object = c i }
 
-records_pass : (t p : ℕ) (l : List Event) → records_alike t p l l ≡ Check.Passed
+records_pass : (t p : ℕ) (l : List Event) → records_alike t p l l ≡ Ok tt
 unfolding records_alike
 records_pass t p [] = refl
 records_pass t p (v ∷ l) = rw (eq-eqb v.kind v.kind refl, eq-eqb v.object v.object refl) (records_pass t (suc p) l)
 
 -- task by task
 module _ (l m : List Event) where
-  tasks_same : (n : ℕ) → tasks_alike l m n ≡ Check.Passed → (t : ℕ) → t < n → own_records l t ≡ own_records m t
+  tasks_same : (n : ℕ) → tasks_alike l m n ≡ Ok tt → (t : ℕ) → t < n → own_records l t ≡ own_records m t
   unfolding tasks_alike
   tasks_same zero q t h = absurd (not-suc-le-zero h)
   tasks_same (suc n) q t h =
@@ -120,7 +120,7 @@ module _ (l m : List Event) where
       let here = records_same n _ (own_records l n) (own_records m n) (own_task l n) (own_task m n) last in
       last_or_lower h (λ e. subst (λ (i : ℕ). own_records l i ≡ own_records m i) (sym e) here) (λ k. tasks_same n lower t k)
 
-  tasks_pass : ((t : ℕ) → own_records l t ≡ own_records m t) → (n : ℕ) → tasks_alike l m n ≡ Check.Passed
+  tasks_pass : ((t : ℕ) → own_records l t ≡ own_records m t) → (n : ℕ) → tasks_alike l m n ≡ Ok tt
   unfolding tasks_alike
   tasks_pass h zero = refl
   tasks_pass h (suc n) = rw (tasks_pass h n, h n) (records_pass n _ (own_records m n))
@@ -128,7 +128,7 @@ module _ (l m : List Event) where
 -- ---- the whole
 
 same_work : (f g : List ℕ) → let E = recording_of f in
-    let F = recording_of g in Accepted E → Accepted F → work_alike E F ≡ Check.Passed → SameWork E F
+    let F = recording_of g in Accepted E → Accepted F → work_alike E F ≡ Ok tt → SameWork E F
 unfolding work_alike same_counts recording_of
 same_work f g accE accF q =
     let E = recording_of f in
@@ -153,7 +153,7 @@ same_work f g accE accF q =
           (no_records E accE) (λ t h. no_records F accF t (omega arith));
     }
 
-work_passes : (E F : Recording) → SameWork E F → work_alike E F ≡ Check.Passed
+work_passes : (E F : Recording) → SameWork E F → work_alike E F ≡ Ok tt
 unfolding work_alike same_counts
 work_passes E F w =
     let starts = levels_pass E.levels.starts F.levels.starts w.starts (semaphores_of E.counts) in
@@ -162,5 +162,5 @@ work_passes E F w =
     (tasks_pass E.events F.events w.records (tasks E))
 
 pub work_alike_lem : (f g : List ℕ) → let E = recording_of f in
-    let F = recording_of g in Accepted E → Accepted F → (work_alike E F ≡ Check.Passed) ↔ SameWork E F
+    let F = recording_of g in Accepted E → Accepted F → (work_alike E F ≡ Ok tt) ↔ SameWork E F
 work_alike_lem f g accE accF = (same_work f g accE accF, work_passes (recording_of f) (recording_of g))

@@ -1,9 +1,8 @@
 -- A file is accepted exactly when its rules hold (document 01, The recording file and What an acceptable recording obeys; 02, No. 1,
 -- 6 and 8). The rules are in the order of the refusal table, 1 to 8 and 16; the tests that they cite are those of reading and of admissible orders.
 -- Assumes nothing.
-use Rattle.std.specs.Prelude.{ℕ, ◌+◌, ◌*◌, ◌≤◌, ◌<◌, ◌≡◌, true, List, ◌↔◌, length, take}
+use Rattle.std.specs.Prelude.{ℕ, ◌+◌, ◌*◌, ◌≤◌, ◌<◌, ◌≡◌, true, List, ◌↔◌, length, take, Ok}
 use Rattle.model.specs.declared.Counts.{Counts}
-use Rattle.model.specs.declared.Reading.{Reading}
 use Rattle.model.specs.Recording.{post_of, Recording, semaphores_of, flags_of, event, known_kind, named, obeys}
 use Rattle.model.specs.File.{trailer_of, level_count, recording_of}
 use Rattle.model.specs.Reading.{last_edition, most_tasks, most_semaphores, most_flags, most_cells, most_events, reading_of}
@@ -49,4 +48,4 @@ pub record Acceptable (f : List ℕ) : Type 0 where
 
 -- the statement, proved as `accepted_exactly` in proofs/Acceptable.antt
 abbrev pub AcceptedExactly : Type 0
-AcceptedExactly = (f : List ℕ) → Acceptable f ↔ (reading_of f ≡ Reading.Accepted (trailer_of f))
+AcceptedExactly = (f : List ℕ) → Acceptable f ↔ (reading_of f ≡ Ok (trailer_of f))

@@ -1,10 +1,9 @@
 -- What analysing answers, and what it leaves in the lent memory (document 01, List and marks and Refusal table).
 -- Assumes nothing.
-use Rattle.std.specs.Prelude.{ℕ, ◌*◌, Bool, List, ◌++◌, leb, length, drop}
+use Rattle.std.specs.Prelude.{ℕ, ◌*◌, Bool, List, ◌++◌, leb, length, drop, Result, Ok, Err}
 use Rattle.model.specs.declared.Refusal.{Refusal}
-use Rattle.model.specs.declared.Check.{Check}
+use Rattle.model.specs.Refusals.{Check, unless, and_then, after}
 use Rattle.model.specs.declared.Analysis.{Analysis}
-use Rattle.model.specs.Refusals.{unless, and_then, after}
 use Rattle.model.specs.Recording.{Recording, size, tasks}
 use Rattle.model.specs.File.{recording_of}
 use Rattle.model.specs.Reading.{file_check}
@@ -27,24 +26,28 @@ list_fits E budget list = leb (3 * length (listed E budget)) (length list)
 
 -- the file's refusal, then 9
 unfoldable pub work_check : List ℕ → List ℕ → Check
-work_check f work = and_then (file_check f) λ _. unless (work_fits (recording_of f) work) Refusal.Work λ _. Check.Passed
+work_check f work = and_then (file_check f) λ _. unless (work_fits (recording_of f) work) Refusal.Work λ _. Ok tt
 
 -- then 10, with the pairs needed
 unfoldable pub analysis_check : List ℕ → ℕ → List ℕ → List ℕ → Check
 analysis_check f budget work list =
     and_then (work_check f work) λ _.
-    let E = recording_of f in unless (list_fits E budget list) (Refusal.List (length (listed E budget))) λ _. Check.Passed
+    let E = recording_of f in unless (list_fits E budget list) (Refusal.List (length (listed E budget))) λ _. Ok tt
 
 -- passes made, settled, and pairs
-abbrev pub done : Recording → ℕ → Analysis
-done E budget = Analysis.Done (passes_made E budget) (is_settled E budget) (length (listed E budget))
+abbrev pub analysed : ℕ → Bool → ℕ → Result Analysis Refusal
+analysed passes settled pairs = Ok (record { passes = passes; settled = settled; pairs = pairs })
 
-abbrev pub analysis_by : Recording → ℕ → Check → Analysis
-analysis_by E budget Check.Passed = done E budget
-analysis_by E budget (Check.Failed r) = Analysis.Refused r
+-- those of a run
+abbrev pub done : Recording → ℕ → Result Analysis Refusal
+done E budget = analysed (passes_made E budget) (is_settled E budget) (length (listed E budget))
+
+abbrev pub analysis_by : Recording → ℕ → Check → Result Analysis Refusal
+analysis_by E budget (Ok tt) = done E budget
+analysis_by E budget (Err r) = Err r
 
 -- what analysing answers
-unfoldable pub analysis_of : List ℕ → ℕ → List ℕ → List ℕ → Analysis
+unfoldable pub analysis_of : List ℕ → ℕ → List ℕ → List ℕ → Result Analysis Refusal
 analysis_of f budget work list = analysis_by (recording_of f) budget (analysis_check f budget work list)
 
 -- the work memory after analysing: filled, also after 10

@@ -1,10 +1,9 @@
 -- What the editions say of start counts and post counts, and that a file of edition 1 or 2 means what it meant before there were
 -- flags and single-instruction accesses (document 02, No. 1, 6 and 8). Proved as `editions` in proofs/Editions.antt.
 -- Assumes nothing.
-use Rattle.std.specs.Prelude.{ℕ, ◌≤◌, ◌<◌, ◌≡◌, Bool, false, not, cond, ◌&&◌, ◌||◌, List, [], ◌++◌, eqb, length, get_or}
+use Rattle.std.specs.Prelude.{ℕ, ◌≤◌, ◌<◌, ◌≡◌, Bool, false, not, cond, ◌&&◌, ◌||◌, List, [], ◌++◌, eqb, length, get_or, Ok}
 use Rattle.model.specs.declared.Event.{Event}
 use Rattle.model.specs.declared.Trailer.{Trailer}
-use Rattle.model.specs.declared.Reading.{Reading}
 use Rattle.model.specs.Numbers.{filter, found}
 use Rattle.model.specs.Recording.{start_of, post_of, Recording, size, event, task_of, kind_of, object_of, wait, read, write, wait_kept, life_kept, obeys, semaphores_of, flags_of}
 use Rattle.model.specs.File.{trailer_of, recording_of}
@@ -49,11 +48,11 @@ pub record Editions : Type 0 where
   -- in edition 1 every start count is 0
   pub first : (f : List ℕ) → (trailer_of f).counts.edition ≡ 1 → (s : ℕ) → start_of (recording_of f).levels s ≡ 0
   -- from edition 2 on an accepted file has a start byte for each semaphore
-  pub starts : (f : List ℕ) (h : Trailer) → reading_of f ≡ Reading.Accepted h → 2 ≤ h.counts.edition → length (starts_of f) ≡ semaphores_of h.counts
+  pub starts : (f : List ℕ) (h : Trailer) → reading_of f ≡ Ok h → 2 ≤ h.counts.edition → length (starts_of f) ≡ semaphores_of h.counts
   -- an accepted file has a post byte for each flag
-  pub posts : (f : List ℕ) (h : Trailer) → reading_of f ≡ Reading.Accepted h → length (posts_of f) ≡ flags_of h.counts
+  pub posts : (f : List ℕ) (h : Trailer) → reading_of f ≡ Ok h → length (posts_of f) ≡ flags_of h.counts
   -- the start counts and the post counts of an accepted file are these bytes
-  pub start_bytes : (f : List ℕ) (h : Trailer) → reading_of f ≡ Reading.Accepted h → (s : ℕ) → start_of (recording_of f).levels s ≡ get_or (starts_of f) s 0
-  pub post_bytes : (f : List ℕ) (h : Trailer) → reading_of f ≡ Reading.Accepted h → (g : ℕ) → post_of (recording_of f).levels g ≡ get_or (posts_of f) g 0
+  pub start_bytes : (f : List ℕ) (h : Trailer) → reading_of f ≡ Ok h → (s : ℕ) → start_of (recording_of f).levels s ≡ get_or (starts_of f) s 0
+  pub post_bytes : (f : List ℕ) (h : Trailer) → reading_of f ≡ Ok h → (g : ℕ) → post_of (recording_of f).levels g ≡ get_or (posts_of f) g 0
   -- an accepted file of edition 1 or 2 means what it meant
-  pub as_before : (f : List ℕ) (h : Trailer) → reading_of f ≡ Reading.Accepted h → h.counts.edition ≤ 2 → AsBefore (recording_of f)
+  pub as_before : (f : List ℕ) (h : Trailer) → reading_of f ≡ Ok h → h.counts.edition ≤ 2 → AsBefore (recording_of f)

@@ -1,16 +1,15 @@
 -- The look for a joined task's last event, back from its join (document 02, No. 3): what it finds in a part of the records, how many
 -- records it reads, and why the part before the join is enough.
 -- Assumes nothing.
-use Rattle.std.specs.Prelude.{ℕ, ◌-◌, ◌≤◌, ◌<◌, ◌≡◌, true, false, List, ◌↔◌, length, take}
+use Rattle.std.specs.Prelude.{ℕ, ◌-◌, ◌≤◌, ◌<◌, ◌≡◌, true, false, List, ◌↔◌, length, take, Option, Some, None}
 use Rattle.model.specs.declared.Event.{Event}
-use Rattle.model.specs.declared.Found.{Found}
 use Rattle.model.specs.Recording.{Recording, size, event_in, event, of_task, is_join, Accepted}
 use Rattle.model.specs.Passes.{last_event}
 
 -- of n records those from the hit on, or all
-abbrev pub from_hit : ℕ → Found → ℕ
-from_hit n (Found.At a) = n - a
-from_hit n Found.Nothing = n
+abbrev pub from_hit : ℕ → Option ℕ → ℕ
+from_hit n (Some a) = n - a
+from_hit n None = n
 
 -- how many of the records l are read, going back from the last one, until the last event of task t is found
 unfoldable pub records_read : List Event → ℕ → ℕ
@@ -19,9 +18,9 @@ records_read l t = from_hit (length l) (last_event l t)
 -- what is found among the records l for task t
 pub record Looked (l : List Event) (t : ℕ) : Type 0 where
   -- a record of the task, and the task has none behind it
-  pub hit : (a : ℕ) → last_event l t ≡ Found.At a → (a < length l) × (of_task t (event_in l a) ≡ true) × ((b : ℕ) → a < b → b < length l → of_task t (event_in l b) ≡ false)
+  pub hit : (a : ℕ) → last_event l t ≡ Some a → (a < length l) × (of_task t (event_in l a) ≡ true) × ((b : ℕ) → a < b → b < length l → of_task t (event_in l b) ≡ false)
   -- none exactly when the task has no record there
-  pub none : (last_event l t ≡ Found.Nothing) ↔ ((a : ℕ) → a < length l → of_task t (event_in l a) ≡ false)
+  pub none : (last_event l t ≡ None) ↔ ((a : ℕ) → a < length l → of_task t (event_in l a) ≡ false)
 
 -- the statement, proved as `looked` in proofs/LastEvent.antt
 abbrev pub LookedBack : Type 0

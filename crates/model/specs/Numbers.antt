@@ -1,7 +1,6 @@
 -- Sums, counts and lists of numbers: what the definitions of the papers are written with.
 -- Assumes nothing.
-use Rattle.std.specs.Prelude.{ℕ, zero, suc, ◌+◌, max, Bool, true, false, cond, List, [], ◌∷◌, ◌++◌, leb, get_or}
-use Rattle.model.specs.declared.Found.{Found}
+use Rattle.std.specs.Prelude.{ℕ, zero, suc, ◌+◌, max, Bool, true, false, cond, List, [], ◌∷◌, ◌++◌, leb, get_or, Option, Some, None}
 
 abbrev pub bit : Bool → ℕ
 bit true = 1
@@ -55,20 +54,20 @@ unfoldable pub picked : (ℕ → Bool) → ℕ → List ℕ
 picked p n = each (λ e. cond (p e) (e ∷ []) []) n
 
 -- the last number below n that passes the test
-unfoldable pub last_of : (ℕ → Bool) → ℕ → Found
-last_of p zero = Found.Nothing
-last_of p (suc n) = elim (p n) [ true ↦ Found.At n | false ↦ last_of p n ]
+unfoldable pub last_of : (ℕ → Bool) → ℕ → Option ℕ
+last_of p zero = None
+last_of p (suc n) = elim (p n) [ true ↦ Some n | false ↦ last_of p n ]
 
 -- the element at place k, from 0
-unfoldable pub nth : List ℕ → ℕ → Found
-nth [] k = Found.Nothing
-nth (x ∷ l) zero = Found.At x
+unfoldable pub nth : List ℕ → ℕ → Option ℕ
+nth [] k = None
+nth (x ∷ l) zero = Some x
 nth (x ∷ l) (suc k) = nth l k
 
 -- what was found, as a list
-abbrev pub found : Found → List ℕ
-found (Found.At e) = e ∷ []
-found Found.Nothing = []
+abbrev pub found : Option ℕ → List ℕ
+found (Some e) = e ∷ []
+found None = []
 
 -- the largest f x over the list; 0 where it is empty
 unfoldable pub largest : {A : Type 0} → (A → ℕ) → List A → ℕ

@@ -1,12 +1,9 @@
 -- What is proved of every two recordings of one job (document 02, No. 4): whatever order the records arrived in, the settled vectors
 -- and the listed pairs are the same, where an event is named by its task and its position; and what their one list promises.
 -- Assumes nothing.
-use Rattle.std.specs.Prelude.{ℕ, ◌<◌, ◌≡◌, true, ◌⊎◌, ◌↔◌}
+use Rattle.std.specs.Prelude.{ℕ, ◌<◌, ◌≡◌, true, ◌⊎◌, ◌↔◌, Option, Some, None, Ok}
 use mathlib.Core.List.{List, Memᴰ}
 use Rattle.model.specs.declared.Trailer.{Trailer}
-use Rattle.model.specs.declared.Found.{Found}
-use Rattle.model.specs.declared.Check.{Check}
-use Rattle.model.specs.declared.Reading.{Reading}
 use Rattle.model.specs.Recording.{start_of, post_of, Recording, size, tasks, cells, semaphores_of, flags_of, event}
 use Rattle.model.specs.File.{recording_of}
 use Rattle.model.specs.Reading.{reading_of}
@@ -28,9 +25,9 @@ pub record SameWork (E F : Recording) : Type 0 where
   pub records : (t : ℕ) → own_records E.events t ≡ own_records F.events t
 
 -- the number for task u of an event that was looked for; 0 where there is none
-abbrev pub number_found : Vectors → Found → ℕ → ℕ
-number_found X (Found.At e) u = number X e u
-number_found X Found.Nothing u = 0
+abbrev pub number_found : Vectors → Option ℕ → ℕ → ℕ
+number_found X (Some e) u = number X e u
+number_found X None u = 0
 
 -- the number for task u in the vector of task t's event at position p
 abbrev pub number_at : Recording → Vectors → ℕ → ℕ → ℕ → ℕ
@@ -68,8 +65,8 @@ pub record JointPromise (E F : Recording) : Type 0 where
 pub record OneJob (f g : List ℕ) : Type 0 where
   pub first_trailer : Trailer
   pub second_trailer : Trailer
-  pub first_accepted : reading_of f ≡ Reading.Accepted first_trailer
-  pub second_accepted : reading_of g ≡ Reading.Accepted second_trailer
+  pub first_accepted : reading_of f ≡ Ok first_trailer
+  pub second_accepted : reading_of g ≡ Ok second_trailer
   pub work : SameWork (recording_of f) (recording_of g)
 
 -- proved as `together` in proofs/Together.antt
@@ -83,5 +80,5 @@ pub record Together : Type 0 where
   pub promise : (f g : List ℕ) → OneJob f g
       → JointPromise (recording_of f) (recording_of g) × JointPromise (recording_of g) (recording_of f)
   -- 14 is answered exactly where two accepted files are not the same work
-  pub differs : (f g : List ℕ) (h k : Trailer) → reading_of f ≡ Reading.Accepted h → reading_of g ≡ Reading.Accepted k
-      → (work_alike (recording_of f) (recording_of g) ≡ Check.Passed) ↔ SameWork (recording_of f) (recording_of g)
+  pub differs : (f g : List ℕ) (h k : Trailer) → reading_of f ≡ Ok h → reading_of g ≡ Ok k
+      → (work_alike (recording_of f) (recording_of g) ≡ Ok tt) ↔ SameWork (recording_of f) (recording_of g)

@@ -1,8 +1,7 @@
 -- Passes and safe vectors (document 01; 02, No. 1 and 6).
 -- Assumes nothing.
-use Rattle.std.specs.Prelude.{ℕ, zero, suc, ◌+◌, ◌-◌, ◌*◌, max, Bool, true, false, cond, not, ◌&&◌, List, [], ◌∷◌, ◌++◌, map, eqb, length, set}
+use Rattle.std.specs.Prelude.{ℕ, zero, suc, ◌+◌, ◌-◌, ◌*◌, max, Bool, true, false, cond, not, ◌&&◌, List, [], ◌∷◌, ◌++◌, map, eqb, length, set, Option, Some, None}
 use Rattle.model.specs.declared.Event.{Event}
-use Rattle.model.specs.declared.Found.{Found}
 use Rattle.model.specs.Numbers.{count, filter, list_of, picked, last_of, found, largest, kth_least}
 use Rattle.model.specs.Recording.{start_of, post_of, Recording, size, tasks, event_in, kind_of, object_of, signal, wait, join, post, flag_wait, of_task, is_on, is_fork}
 use Rattle.model.specs.Vectors.{Vectors, number, start, ordered}
@@ -10,24 +9,24 @@ use Rattle.model.specs.Vectors.{Vectors, number, start, ordered}
 -- ---- step 1: the events whose vectors e takes the largest of
 
 -- the event before e in its task
-abbrev pub previous : List Event → ℕ → Found
+abbrev pub previous : List Event → ℕ → Option ℕ
 previous l e = last_of (λ a. of_task (event_in l e).task (event_in l a)) e
 
 -- the fork of task t
-abbrev pub fork_of : List Event → ℕ → Found
+abbrev pub fork_of : List Event → ℕ → Option ℕ
 fork_of l t = last_of (λ a. is_fork t (event_in l a)) (length l)
 
 -- the last event of task t
-abbrev pub last_event : List Event → ℕ → Found
+abbrev pub last_event : List Event → ℕ → Option ℕ
 last_event l t = last_of (λ a. of_task t (event_in l a)) (length l)
 
 -- the first that was found
-abbrev pub first_found : Found → Found → Found
-first_found (Found.At a) f = Found.At a
-first_found Found.Nothing f = f
+abbrev pub first_found : Option ℕ → Option ℕ → Option ℕ
+first_found (Some a) f = Some a
+first_found None f = f
 
 -- the event before e in its task, or for the first event of a task the fork
-abbrev pub before_or_fork : List Event → ℕ → Found
+abbrev pub before_or_fork : List Event → ℕ → Option ℕ
 before_or_fork l e = first_found (previous l e) (fork_of l (event_in l e).task)
 
 -- for a join of t the fork of t and the last event of t

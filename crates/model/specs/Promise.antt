@@ -1,9 +1,8 @@
 -- Demand 3: what is promised of every file that reading accepts and of every budget, as one statement.
 -- Assumes nothing.
-use Rattle.std.specs.Prelude.{ℕ, ◌+◌, ◌*◌, ◌≤◌, ◌<◌, ◌≡◌, true, length}
+use Rattle.std.specs.Prelude.{ℕ, ◌+◌, ◌*◌, ◌≤◌, ◌<◌, ◌≡◌, true, length, Ok}
 use mathlib.Core.List.{List, Memᴰ}
 use Rattle.model.specs.declared.Trailer.{Trailer}
-use Rattle.model.specs.declared.Reading.{Reading}
 use Rattle.model.specs.Recording.{Recording, size, event}
 use Rattle.model.specs.File.{recording_of}
 use Rattle.model.specs.Reading.{reading_of}
@@ -29,11 +28,11 @@ pub record Promise (E : Recording) (budget : ℕ) : Type 0 where
 
 -- the statement, proved as `promise` in proofs/Promise.antt
 abbrev pub Promised : Type 0
-Promised = (f : List ℕ) (h : Trailer) → reading_of f ≡ Reading.Accepted h → (budget : ℕ) → Promise (recording_of f) budget
+Promised = (f : List ℕ) (h : Trailer) → reading_of f ≡ Ok h → (budget : ℕ) → Promise (recording_of f) budget
 
 -- fewer than k candidates never happens: of an accepted file, in no pass; proved as `enough_candidates` in proofs/Promise.antt
 abbrev pub EnoughCandidates : Type 0
 EnoughCandidates =
-    (f : List ℕ) (h : Trailer) → reading_of f ≡ Reading.Accepted h → (budget e : ℕ) → e < size (recording_of f)
+    (f : List ℕ) (h : Trailer) → reading_of f ≡ Ok h → (budget e : ℕ) → e < size (recording_of f)
     → let E = recording_of f in
     let X = step_one E (pass_to E (safe_vectors E budget) e) e in needed E X e ≤ length (candidates E X e)

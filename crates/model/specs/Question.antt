@@ -1,11 +1,9 @@
 -- A question about two events (document 01, Two events, writing, printing).
 -- Assumes nothing.
-use Rattle.std.specs.Prelude.{ℕ, Bool, not, ◌&&◌, cond, List, ltb, eqb}
+use Rattle.std.specs.Prelude.{ℕ, Bool, not, ◌&&◌, cond, List, ltb, eqb, Result, Ok, Err}
 use Rattle.model.specs.declared.Refusal.{Refusal}
-use Rattle.model.specs.declared.Check.{Check}
+use Rattle.model.specs.Refusals.{Check, unless, and_then, after}
 use Rattle.model.specs.declared.Relation.{Relation}
-use Rattle.model.specs.declared.Answer.{Answer}
-use Rattle.model.specs.Refusals.{unless, and_then, after}
 use Rattle.model.specs.Recording.{Recording, size}
 use Rattle.model.specs.File.{recording_of}
 use Rattle.model.specs.Reading.{file_check}
@@ -40,18 +38,18 @@ unfoldable pub asked_check : Recording → ℕ → ℕ → List ℕ → Check
 asked_check E a b work =
     unless (two_events E a b) Refusal.Event λ _.
     unless (work_fits E work) Refusal.Work λ _.
-    Check.Passed
+    Ok tt
 
 -- the file's refusal, then these
 unfoldable pub question_check : List ℕ → ℕ → ℕ → List ℕ → Check
 question_check f a b work = and_then (file_check f) λ _. asked_check (recording_of f) a b work
 
-abbrev pub answer_by : Recording → ℕ → ℕ → ℕ → Check → Answer
-answer_by E a b budget Check.Passed = Answer.Related (relation_of E a b budget)
-answer_by E a b budget (Check.Failed r) = Answer.Refused r
+abbrev pub answer_by : Recording → ℕ → ℕ → ℕ → Check → Result Relation Refusal
+answer_by E a b budget (Ok tt) = Ok (relation_of E a b budget)
+answer_by E a b budget (Err r) = Err r
 
 -- what the question answers
-unfoldable pub answer_of : List ℕ → ℕ → ℕ → ℕ → List ℕ → Answer
+unfoldable pub answer_of : List ℕ → ℕ → ℕ → ℕ → List ℕ → Result Relation Refusal
 answer_of f a b budget work = answer_by (recording_of f) a b budget (question_check f a b work)
 
 -- the work memory after the question: filled as after analysing

@@ -1,9 +1,8 @@
 -- What is promised of a question about two different events, of every file that reading accepts and of every budget: its
 -- answer is read like the list, and what it says of the two holds of the admissible orders.
 -- Assumes nothing.
-use Rattle.std.specs.Prelude.{ℕ, ◌<◌, ◌≡◌, true, List, ◌↔◌}
+use Rattle.std.specs.Prelude.{ℕ, ◌<◌, ◌≡◌, true, List, ◌↔◌, Ok}
 use Rattle.model.specs.declared.Trailer.{Trailer}
-use Rattle.model.specs.declared.Reading.{Reading}
 use Rattle.model.specs.declared.Relation.{Relation}
 use Rattle.model.specs.Recording.{Recording, size, event}
 use Rattle.model.specs.File.{recording_of}
@@ -27,5 +26,5 @@ pub record QuestionPromise (E : Recording) (a b budget : ℕ) : Type 0 where
 -- the statement, proved as `question_promise` in proofs/Questions.antt
 abbrev pub QuestionPromised : Type 0
 QuestionPromised =
-    (f : List ℕ) (h : Trailer) → reading_of f ≡ Reading.Accepted h
+    (f : List ℕ) (h : Trailer) → reading_of f ≡ Ok h
     → (a b : ℕ) → a < size (recording_of f) → b < size (recording_of f) → ¬ (a ≡ b) → (budget : ℕ) → QuestionPromise (recording_of f) a b budget

@@ -1,13 +1,11 @@
 -- Reading a file: refusals 1 to 8 and 16 in the table's order, the preamble, the records' part, the start bytes, and the post bytes.
 -- Assumes nothing.
-use Rattle.std.specs.Prelude.{ℕ, ◌+◌, ◌*◌, Bool, ◌&&◌, List, [], leb, eqb, length, take}
+use Rattle.std.specs.Prelude.{ℕ, ◌+◌, ◌*◌, Bool, ◌&&◌, List, [], leb, eqb, length, take, Result, Ok, Err}
 use Rattle.model.specs.declared.Counts.{Counts}
 use Rattle.model.specs.declared.Trailer.{Trailer}
 use Rattle.model.specs.declared.Refusal.{Refusal}
-use Rattle.model.specs.declared.Check.{Check}
-use Rattle.model.specs.declared.Reading.{Reading}
+use Rattle.model.specs.Refusals.{Check, unless, after}
 use Rattle.model.specs.Numbers.{count}
-use Rattle.model.specs.Refusals.{unless, after}
 use Rattle.model.specs.Recording.{size, semaphores_of, flags_of, first_fault}
 use Rattle.model.specs.File.{trailer_at, trailer_of, record_bytes, level_count, recording_of}
 
@@ -60,12 +58,12 @@ file_check f =
     unless (posts_up E.levels.posts) Refusal.Count λ _.
     first_fault E (size E)
 
-abbrev pub reading_by : Trailer → Check → Reading
-reading_by h Check.Passed = Reading.Accepted h
-reading_by h (Check.Failed r) = Reading.Refused r
+abbrev pub reading_by : Trailer → Check → Result Trailer Refusal
+reading_by h (Ok tt) = Ok h
+reading_by h (Err r) = Err r
 
 -- what reading answers
-unfoldable pub reading_of : List ℕ → Reading
+unfoldable pub reading_of : List ℕ → Result Trailer Refusal
 reading_of f = reading_by (trailer_of f) (file_check f)
 
 -- the preamble: the part of the file before the first record; of a refused file, the empty part

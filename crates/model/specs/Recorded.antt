@@ -1,8 +1,7 @@
 -- The recorded run (document 01; 02, No. 1 and 6): vectors that are made once, in file order.
 -- Assumes nothing.
-use Rattle.std.specs.Prelude.{ℕ, zero, suc, ◌-◌, Bool, true, false, cond, List, [], ◌++◌, ltb, eqb, take, set}
+use Rattle.std.specs.Prelude.{ℕ, zero, suc, ◌-◌, Bool, true, false, cond, List, [], ◌++◌, ltb, eqb, take, set, Option, None}
 use Rattle.model.specs.declared.Event.{Event}
-use Rattle.model.specs.declared.Found.{Found}
 use Rattle.model.specs.Numbers.{tally, nth, found}
 use Rattle.model.specs.Recording.{Levels, start_of, post_of, Recording, size, event_in, wait, flag_wait, is_wait}
 use Rattle.model.specs.Vectors.{Vectors, start}
@@ -13,15 +12,15 @@ abbrev pub waits_before : List Event → ℕ → ℕ
 waits_before l e = tally (λ w. is_wait (event_in l e).object (event_in l w)) e
 
 -- the signal of a wait e on a semaphore with the start count n: the first n waits have none, later ones match from the first signal on
-abbrev pub match_after : ℕ → List Event → ℕ → Found
-match_after n l e = cond (ltb (waits_before l e) n) Found.Nothing (nth (signals_on l (event_in l e).object) (waits_before l e - n))
+abbrev pub match_after : ℕ → List Event → ℕ → Option ℕ
+match_after n l e = cond (ltb (waits_before l e) n) None (nth (signals_on l (event_in l e).object) (waits_before l e - n))
 
 -- the signal that e is matched with, in a recording with the levels x; nothing where it is no wait
-abbrev pub match_where : Levels → List Event → ℕ → Bool → Found
+abbrev pub match_where : Levels → List Event → ℕ → Bool → Option ℕ
 match_where x l e true = match_after (start_of x (event_in l e).object) l e
-match_where x l e false = Found.Nothing
+match_where x l e false = None
 
-unfoldable pub matched : Levels → List Event → ℕ → Found
+unfoldable pub matched : Levels → List Event → ℕ → Option ℕ
 matched x l e = match_where x l e (eqb (event_in l e).kind wait)
 
 -- the posts that a flag wait e follows: the file's first ones on its flag, as many as the post count; none where e is no flag wait

@@ -1,13 +1,12 @@
 -- A recording, the rules, and the first faulty record (document 01, What an acceptable recording obeys; 02, No. 1, 6 and 8).
 -- Assumes nothing.
-use Rattle.std.specs.Prelude.{ℕ, zero, suc, ◌+◌, ◌/◌, ◌%◌, ◌≡◌, Bool, true, false, cond, not, ◌&&◌, List, [], ◌∷◌, ltb, leb, eqb, length, take, get_or}
+use Rattle.std.specs.Prelude.{ℕ, zero, suc, ◌+◌, ◌/◌, ◌%◌, ◌≡◌, Bool, true, false, cond, not, ◌&&◌, List, [], ◌∷◌, ltb, leb, eqb, length, take, get_or, Ok, Option, Some, None}
 use Rattle.model.specs.declared.Event.{Event}
 use Rattle.model.specs.declared.Counts.{Counts}
 use Rattle.model.specs.declared.Class.{Class}
 use Rattle.model.specs.declared.Refusal.{Refusal}
-use Rattle.model.specs.declared.Check.{Check}
+use Rattle.model.specs.Refusals.{Check, unless, and_then}
 use Rattle.model.specs.Numbers.{count}
-use Rattle.model.specs.Refusals.{unless, and_then}
 
 -- what a file gives for each semaphore, its start count, and for each flag, its post count
 pub record Levels : Type 0 where
@@ -168,22 +167,22 @@ obeys x before v = life_kept before v && wait_kept x before v && flag_kept x bef
 
 -- ---- the first faulty record
 
--- the table of kinds: what the object of each names
-abbrev pub classes : List Class
+-- the table of kinds: what the object of each names; 0 is no kind, and names nothing
+abbrev pub classes : List (Option Class)
 classes =
-    Class.Nothing ∷ Class.Semaphore ∷ Class.Semaphore ∷ Class.Task ∷ Class.Task ∷ Class.Cell ∷ Class.Cell ∷ Class.Flag ∷ Class.Flag
-    ∷ Class.Cell ∷ Class.Cell ∷ []
+    None ∷ Some Class.Semaphore ∷ Some Class.Semaphore ∷ Some Class.Task ∷ Some Class.Task ∷ Some Class.Cell ∷ Some Class.Cell
+    ∷ Some Class.Flag ∷ Some Class.Flag ∷ Some Class.Cell ∷ Some Class.Cell ∷ []
 
-unfoldable pub class_of : ℕ → Class
-class_of k = get_or classes k Class.Nothing
+unfoldable pub class_of : ℕ → Option Class
+class_of k = get_or classes k None
 
--- how many names a class has
-abbrev pub names_of : Counts → Class → ℕ
-names_of c Class.Nothing = 0
-names_of c Class.Semaphore = semaphores_of c
-names_of c Class.Task = c.tasks
-names_of c Class.Cell = c.cells
-names_of c Class.Flag = flags_of c
+-- how many names a class has; none where there is no class
+abbrev pub names_of : Counts → Option Class → ℕ
+names_of c None = 0
+names_of c (Some Class.Semaphore) = semaphores_of c
+names_of c (Some Class.Task) = c.tasks
+names_of c (Some Class.Cell) = c.cells
+names_of c (Some Class.Flag) = flags_of c
 
 -- the last kind: 6, in edition 3 10
 unfoldable pub last_kind : Counts → ℕ
@@ -206,13 +205,13 @@ record_check c x before v =
     unless (life_kept before v) (Refusal.Life e) λ _.
     unless (wait_kept x before v) (Refusal.Empty e) λ _.
     unless (flag_kept x before v) (Refusal.Flag e) λ _.
-    Check.Passed
+    Ok tt
 
 -- the first faulty record among the first n
 unfoldable pub first_fault : Recording → ℕ → Check
-first_fault E zero = Check.Passed
+first_fault E zero = Ok tt
 first_fault E (suc n) = and_then (first_fault E n) λ _. record_check E.counts E.levels (take n E.events) (event E n)
 
 -- an acceptable recording
 unfoldable pub Accepted : Recording → Type 0
-Accepted E = first_fault E (size E) ≡ Check.Passed
+Accepted E = first_fault E (size E) ≡ Ok tt

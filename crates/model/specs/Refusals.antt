@@ -1,8 +1,7 @@
 -- The refusal table (document 01, Refusal table; 02, No. 1, 4, 5, 6 and 9), and checks made in its order.
 -- Assumes nothing.
-use Rattle.std.specs.Prelude.{ℕ, Bool, true, false}
+use Rattle.std.specs.Prelude.{ℕ, Bool, true, false, Result, Ok, Err}
 use Rattle.model.specs.declared.Refusal.{Refusal}
-use Rattle.model.specs.declared.Check.{Check}
 
 -- the number of each refusal in the table
 abbrev pub number_of : Refusal → ℕ
@@ -106,17 +105,21 @@ differing_position Refusal.Stretch = 0
 
 -- Tests are made in the table's order, and what follows a test is computed only where it passes.
 
+-- the outcome of a check: it passes, or there is a refusal
+abbrev pub Check : Type 0
+Check = Result (Unit {0}) Refusal
+
 -- unless the test passes, this refusal; else what follows
 abbrev pub unless : Bool → Refusal → (Unit {0} → Check) → Check
 unless true r rest = rest tt
-unless false r rest = Check.Failed r
+unless false r rest = Err r
 
 -- what follows a check that passes
 abbrev pub and_then : Check → (Unit {0} → Check) → Check
-and_then Check.Passed rest = rest tt
-and_then (Check.Failed r) rest = Check.Failed r
+and_then (Ok tt) rest = rest tt
+and_then (Err r) rest = Err r
 
 -- what a check that passes changes, or what is kept after a refusal
 abbrev pub after : {A : Type 0} → Check → (Unit {0} → A) → A → A
-after Check.Passed changed kept = changed tt
-after (Check.Failed r) changed kept = kept
+after (Ok tt) changed kept = changed tt
+after (Err r) changed kept = kept

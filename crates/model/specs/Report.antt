@@ -1,11 +1,10 @@
 -- What the program prints of a file (document 01, Two events, writing, printing). Every line ends in the byte 0A.
 -- Assumes nothing.
-use Rattle.std.specs.Prelude.{ℕ, min, Bool, true, false, List, [], ◌∷◌, ◌++◌, ltb, eqb, length, take, drop}
+use Rattle.std.specs.Prelude.{ℕ, min, Bool, true, false, List, [], ◌∷◌, ◌++◌, ltb, eqb, length, take, drop, Ok, Err}
 use Prim.Native.String.{String}
 use Rattle.model.specs.declared.Event.{Event}
 use Rattle.model.specs.declared.Refusal.{Refusal}
-use Rattle.model.specs.declared.Check.{Check}
-use Rattle.model.specs.Refusals.{number_of, record_of}
+use Rattle.model.specs.Refusals.{Check, number_of, record_of}
 use Rattle.model.specs.Recording.{Recording, size, tasks, event_in}
 use Rattle.model.specs.File.{recording_of}
 use Rattle.model.specs.Passes.{run, budget_of}
@@ -55,8 +54,8 @@ result_text E budget =
 
 -- of a recording that passes, the result; else the refusal
 abbrev pub report_by : Recording → ℕ → Check → List ℕ
-report_by E budget Check.Passed = result_text E budget
-report_by E budget (Check.Failed r) = refusal_line r
+report_by E budget (Ok tt) = result_text E budget
+report_by E budget (Err r) = refusal_line r
 
 -- the program reads files of at most so many bytes
 abbrev pub most_bytes : ℕ

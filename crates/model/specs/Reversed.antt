@@ -1,12 +1,10 @@
 -- An order that shows a pair reversed (document 02, No. 5): a recording in which the chosen event x comes earlier than the event y.
 -- Assumes nothing.
-use Rattle.std.specs.Prelude.{ℕ, not, List, ◌++◌, leb, length, drop}
+use Rattle.std.specs.Prelude.{ℕ, not, List, ◌++◌, leb, length, drop, Result, Ok}
 use Rattle.model.specs.declared.Event.{Event}
 use Rattle.model.specs.declared.Refusal.{Refusal}
-use Rattle.model.specs.declared.Check.{Check}
-use Rattle.model.specs.declared.Written.{Written}
+use Rattle.model.specs.Refusals.{Check, unless, and_then, after}
 use Rattle.model.specs.Numbers.{picked}
-use Rattle.model.specs.Refusals.{unless, and_then, after}
 use Rattle.model.specs.File.{trailer_of, record_bytes, level_bytes, recording_of}
 use Rattle.model.specs.Vectors.{Vectors, at_or_before, unordered}
 use Rattle.model.specs.Recorded.{recorded}
@@ -34,7 +32,7 @@ abbrev pub forward_check : List Event → Vectors → ℕ → ℕ → ℕ → Li
 forward_check l X x y n out =
     unless (unordered l X x y) Refusal.Unsure λ _.
     unless (leb n (length out)) Refusal.Out λ _.
-    Check.Passed
+    Ok tt
 
 -- the file's refusal, 11 and 9, as for a question; then these, by the recorded vectors
 unfoldable pub reversed_check : List ℕ → ℕ → ℕ → List ℕ → List ℕ → Check
@@ -43,7 +41,7 @@ reversed_check f x y work out =
     let E = recording_of f in forward_check E.events (recorded E) x y (reversed_length f) out
 
 -- what the call answers: the length
-unfoldable pub reversed_of : List ℕ → ℕ → ℕ → List ℕ → List ℕ → Written
+unfoldable pub reversed_of : List ℕ → ℕ → ℕ → List ℕ → List ℕ → Result ℕ Refusal
 reversed_of f x y work out = written_by (reversed_length f) (reversed_check f x y work out)
 
 -- the work memory after the call: as after analysing with budget 0, also after 15 and 12

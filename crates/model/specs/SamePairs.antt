@@ -1,9 +1,8 @@
 -- What release staff rely on (document 02, No. 2): the list in task order has exactly the pairs of the list as document 01 had it,
 -- with the same marks.
 -- Assumes nothing.
-use Rattle.std.specs.Prelude.{ℕ, ◌≡◌, List, ◌↔◌, length}
+use Rattle.std.specs.Prelude.{ℕ, ◌≡◌, List, ◌↔◌, length, Ok}
 use Rattle.model.specs.declared.Trailer.{Trailer}
-use Rattle.model.specs.declared.Reading.{Reading}
 use Rattle.model.specs.Recording.{Recording}
 use Rattle.model.specs.File.{recording_of}
 use Rattle.model.specs.Reading.{reading_of}
@@ -24,4 +23,4 @@ pub record SamePairs (E : Recording) (budget : ℕ) : Type 0 where
 
 -- the statement, proved as `same_pairs` in proofs/SamePairs.antt
 abbrev pub SamePairsListed : Type 0
-SamePairsListed = (f : List ℕ) (h : Trailer) → reading_of f ≡ Reading.Accepted h → (budget : ℕ) → SamePairs (recording_of f) budget
+SamePairsListed = (f : List ℕ) (h : Trailer) → reading_of f ≡ Ok h → (budget : ℕ) → SamePairs (recording_of f) budget

@@ -1,15 +1,12 @@
 -- Two recordings of one job held together (document 02, No. 4): whether they are the same work, their one list, and what the call
 -- answers and leaves in the lent memory.
 -- Assumes nothing.
-use Rattle.std.specs.Prelude.{ℕ, zero, suc, ◌*◌, max, Bool, true, ◌&&◌, List, [], ◌∷◌, ◌++◌, map, leb, eqb, length, get_or, drop}
+use Rattle.std.specs.Prelude.{ℕ, zero, suc, ◌*◌, max, Bool, true, ◌&&◌, List, [], ◌∷◌, ◌++◌, map, leb, eqb, length, get_or, drop, Option, Some, None, Result, Ok, Err}
 use Rattle.model.specs.declared.Event.{Event}
 use Rattle.model.specs.declared.Counts.{Counts}
-use Rattle.model.specs.declared.Found.{Found}
 use Rattle.model.specs.declared.Refusal.{Refusal}
-use Rattle.model.specs.declared.Check.{Check}
-use Rattle.model.specs.declared.Joint.{Joint}
+use Rattle.model.specs.Refusals.{Check, unless, and_then, after}
 use Rattle.model.specs.Numbers.{flat_map, last_of}
-use Rattle.model.specs.Refusals.{unless, and_then, after}
 use Rattle.model.specs.Recording.{Recording, tasks, semaphores_of, flags_of, event_in, of_task}
 use Rattle.model.specs.File.{recording_of}
 use Rattle.model.specs.Reading.{file_check}
@@ -41,14 +38,14 @@ same_record v w = eqb v.kind w.kind && eqb v.object w.object
 
 -- the records of task t from position p on: 14 at the first position where they differ, a missing record counting as different
 unfoldable pub records_alike : ℕ → ℕ → List Event → List Event → Check
-records_alike t p [] [] = Check.Passed
-records_alike t p [] (w ∷ m) = Check.Failed (Refusal.Differ t p)
-records_alike t p (v ∷ l) [] = Check.Failed (Refusal.Differ t p)
+records_alike t p [] [] = Ok tt
+records_alike t p [] (w ∷ m) = Err (Refusal.Differ t p)
+records_alike t p (v ∷ l) [] = Err (Refusal.Differ t p)
 records_alike t p (v ∷ l) (w ∷ m) = unless (same_record v w) (Refusal.Differ t p) λ _. records_alike t (suc p) l m
 
 -- the records of the first n tasks, the lowest first; positions count from 1
 unfoldable pub tasks_alike : List Event → List Event → ℕ → Check
-tasks_alike l m zero = Check.Passed
+tasks_alike l m zero = Ok tt
 tasks_alike l m (suc t) = and_then (tasks_alike l m t) λ _. records_alike t 1 (own_records l t) (own_records m t)
 
 -- counts, start counts and post counts, with task 0 and position 0, then the records
@@ -62,7 +59,7 @@ work_alike E F =
 -- ---- the one list
 
 -- the event of task t at position p
-unfoldable pub at_position : List Event → ℕ → ℕ → Found
+unfoldable pub at_position : List Event → ℕ → ℕ → Option ℕ
 at_position l t p = last_of (λ e. of_task t (event_in l e) && eqb (position l e) p) (length l)
 
 -- a pair by name: task and position of the event of the lower task, and of that of the higher task
@@ -91,10 +88,10 @@ abbrev pub settled_pairs : Recording → List Named
 settled_pairs E = named_pairs E (budget_of E)
 
 -- the mark of two events that were looked for
-abbrev pub mark_found : Recording → Found → Found → ℕ
-mark_found E (Found.At a) (Found.At b) = mark E (recorded E) a b
-mark_found E (Found.At a) Found.Nothing = 0
-mark_found E Found.Nothing g = 0
+abbrev pub mark_found : Recording → Option ℕ → Option ℕ → ℕ
+mark_found E (Some a) (Some b) = mark E (recorded E) a b
+mark_found E (Some a) None = 0
+mark_found E None g = 0
 
 -- the mark of a pair in one recording
 unfoldable pub mark_of : Recording → Named → ℕ
@@ -121,7 +118,7 @@ both_check f g v w =
     and_then (file_check g) λ _.
     and_then (work_alike (recording_of f) (recording_of g)) λ _.
     unless (work_fits (recording_of f) v && work_fits (recording_of g) w) Refusal.Work λ _.
-    Check.Passed
+    Ok tt
 
 -- the list has 5 × pairs numbers
 abbrev pub joint_fits : Recording → List ℕ → Bool
@@ -131,14 +128,14 @@ joint_fits E list = leb (5 * length (settled_pairs E)) (length list)
 unfoldable pub joint_check : List ℕ → List ℕ → List ℕ → List ℕ → List ℕ → Check
 joint_check f g v w list =
     and_then (both_check f g v w) λ _.
-    let E = recording_of f in unless (joint_fits E list) (Refusal.List (length (settled_pairs E))) λ _. Check.Passed
+    let E = recording_of f in unless (joint_fits E list) (Refusal.List (length (settled_pairs E))) λ _. Ok tt
 
-abbrev pub joint_by : Recording → Check → Joint
-joint_by E Check.Passed = Joint.Pairs (length (settled_pairs E))
-joint_by E (Check.Failed r) = Joint.Refused r
+abbrev pub joint_by : Recording → Check → Result ℕ Refusal
+joint_by E (Ok tt) = Ok (length (settled_pairs E))
+joint_by E (Err r) = Err r
 
 -- what the call answers
-unfoldable pub joint_of : List ℕ → List ℕ → List ℕ → List ℕ → List ℕ → Joint
+unfoldable pub joint_of : List ℕ → List ℕ → List ℕ → List ℕ → List ℕ → Result ℕ Refusal
 joint_of f g v w list = joint_by (recording_of f) (joint_check f g v w list)
 
 -- a work memory after the call: filled as after analysing its own file with N × N + 1, also after 10

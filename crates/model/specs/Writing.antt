@@ -1,13 +1,11 @@
 -- Writing a file (document 01, Two events, writing, printing; 02, No. 1, 5 and 6): of record bytes s, counts c, and level bytes b, or
 -- start bytes b and post bytes p.
 -- Assumes nothing.
-use Rattle.std.specs.Prelude.{ℕ, ◌+◌, ◌*◌, ◌/◌, ◌%◌, Bool, ◌&&◌, List, [], ◌∷◌, ◌++◌, leb, eqb, length, get_or, drop}
+use Rattle.std.specs.Prelude.{ℕ, ◌+◌, ◌*◌, ◌/◌, ◌%◌, Bool, ◌&&◌, List, [], ◌∷◌, ◌++◌, leb, eqb, length, get_or, drop, Result, Ok, Err}
 use Rattle.model.specs.declared.Counts.{Counts}
 use Rattle.model.specs.declared.Refusal.{Refusal}
-use Rattle.model.specs.declared.Check.{Check}
-use Rattle.model.specs.declared.Written.{Written}
+use Rattle.model.specs.Refusals.{Check, unless, and_then, after}
 use Rattle.model.specs.Numbers.{flat_map}
-use Rattle.model.specs.Refusals.{unless, and_then, after}
 use Rattle.model.specs.Recording.{size, flags_of, first_fault}
 use Rattle.model.specs.File.{start_count, recording_by}
 use Rattle.model.specs.Reading.{known_edition, in_range, posts_up}
@@ -60,7 +58,7 @@ lent_check s c b p =
     unless (in_range c (length s / 4)) Refusal.Count λ _.
     unless (posts_up p) Refusal.Count λ _.
     unless (levels_fit c b p) Refusal.Starts λ _.
-    Check.Passed
+    Ok tt
 
 -- the checks of what the file would hold: these, then the first faulty record by 5 to 8 and 16
 unfoldable pub records_check : List ℕ → Counts → List ℕ → List ℕ → Check
@@ -71,14 +69,14 @@ unfoldable pub writing_check : List ℕ → Counts → List ℕ → List ℕ →
 writing_check s c b p out =
     and_then (records_check s c b p) λ _.
     unless (leb (file_length s (b ++ p)) (length out)) Refusal.Out λ _.
-    Check.Passed
+    Ok tt
 
-abbrev pub written_by : ℕ → Check → Written
-written_by n Check.Passed = Written.Length n
-written_by n (Check.Failed r) = Written.Refused r
+abbrev pub written_by : ℕ → Check → Result ℕ Refusal
+written_by n (Ok tt) = Ok n
+written_by n (Err r) = Err r
 
 -- what writing answers
-unfoldable pub written_of : List ℕ → Counts → List ℕ → List ℕ → List ℕ → Written
+unfoldable pub written_of : List ℕ → Counts → List ℕ → List ℕ → List ℕ → Result ℕ Refusal
 written_of s c b p out = written_by (file_length s (b ++ p)) (writing_check s c b p out)
 
 -- the output after writing: the file, and beyond it what was there

@@ -6,7 +6,8 @@ ghost use Rattle.std.specs.Prelude.{◌≡◌};
 ghost use Rattle.model.specs.Refusals.{number_of, record_of, pairs_of, differing_task, differing_position};
 ghost use Rattle.model.specs.Question.{relation_number};
 
-// The kinds of records.
+// The kinds of records. Numbers and no enum: a record may hold any byte, and `step_at` and `record_check` (refusal 5) speak of such
+// records too.
 pub const SIGNAL: u8 = 1;
 
 pub const WAIT: u8 = 2;
@@ -77,18 +78,10 @@ pub struct Trailer {
 // What an object names.
 #[derive(Clone, Copy)]
 pub enum Class {
-    Nothing,
     Semaphore,
     Task,
     Cell,
     Flag,
-}
-
-// An event that was looked for.
-#[derive(Clone, Copy)]
-pub enum Found {
-    At(usize),
-    Nothing,
 }
 
 // A refusal, by its word in the table: with the faulty record, with the pairs that the list should hold, or with the task and the
@@ -114,43 +107,19 @@ pub enum Refusal {
     Stretch,
 }
 
-// The outcome of a check.
-#[derive(Clone, Copy)]
-pub enum Check {
-    Passed,
-    Failed(Refusal),
-}
-
-// The answer to reading a file.
-#[derive(Clone, Copy)]
-pub enum Reading {
-    Accepted(Trailer),
-    Refused(Refusal),
-}
-
-// What a step of a walk yields.
-#[derive(Clone, Copy)]
-pub enum Item {
-    Event(Event),
-    End,
-}
-
 // A step of a walk: what it yields, and the number of the next record.
 #[derive(Clone, Copy)]
 pub struct Step {
-    pub item: Item,
+    pub item: Option<Event>,
     pub next: usize,
 }
 
-// The answer to analysing a file.
+// What analysing answers: the passes made, whether the last one was quiet, and how many pairs are listed.
 #[derive(Clone, Copy)]
-pub enum Analysis {
-    Done {
-        passes: u32,
-        settled: bool,
-        pairs: usize,
-    },
-    Refused(Refusal),
+pub struct Analysis {
+    pub passes: u32,
+    pub settled: bool,
+    pub pairs: usize,
 }
 
 // How two events a and b stand to each other.
@@ -162,27 +131,7 @@ pub enum Relation {
     Sure,
 }
 
-// The answer to a question about two events.
-#[derive(Clone, Copy)]
-pub enum Answer {
-    Related(Relation),
-    Refused(Refusal),
-}
-
-// The answer to holding two recordings of one job together: how many pairs their one list has.
-#[derive(Clone, Copy)]
-pub enum Joint {
-    Pairs(usize),
-    Refused(Refusal),
-}
-
-// The answer to writing a file.
-#[derive(Clone, Copy)]
-pub enum Written {
-    Length(usize),
-    Refused(Refusal),
-}
-
+// A method each and no `From`: each is held to a definition of its own, and a conversion would not say which number it gives.
 impl Refusal {
     // The number of the refusal in the table.
     pub fn number(self) -> u8
@@ -255,7 +204,7 @@ impl Refusal {
 }
 
 impl Relation {
-    // The number of the answer: 1 a first, 2 b first, 3 open, 4 sure.
+    // The number of the answer: 1 a first, 2 b first, 3 open, 4 sure. A method, as `Refusal::number` is.
     pub fn number(self) -> u8
         ensures { result ≡ relation_number self }
     {

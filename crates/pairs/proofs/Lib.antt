@@ -1,4 +1,4 @@
 pub mod Chains
 pub mod Stores
-pub mod Order
 pub mod Race
+pub mod Walks

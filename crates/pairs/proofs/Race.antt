@@ -1,5 +1,5 @@
 -- Race pairs and their marks, and the parts that the list is made of. Assumes nothing.
-use mathlib.Core.Path.{◌≡◌, refl, sym, ap, ◌∙◌}
+use mathlib.Core.Path.{◌≡◌, sym, ap, ◌∙◌}
 use mathlib.Core.Bool.{Bool, true, false, cond}
 use mathlib.Core.List.{List, [], ◌∷◌}
 use Prim.Native.Nat.{ℕ, suc, ◌+◌, ◌*◌, ◌≤◌, ◌<◌}
@@ -16,7 +16,7 @@ use Rattle.model.specs.Vectors.{Vectors, unordered}
 use Rattle.model.specs.Pairs.{is_access, is_access_of, conflict, race_pair, mark, Entry, entry, pair_at, entries_of, row_at, cell_entries, entries_in}
 use Rattle.model.proofs.Tests.{cases, clash, fails, both, second, and_false, eq-eqb}
 use Rattle.model.proofs.Listed.{conflict_accesses, conflict_object}
-use Rattle.model.proofs.Each.{each_none, each_most, each_count, flat_each, tails_each}
+use Rattle.model.proofs.Each.{each_none, each_most, flat_each, tails_each}
 use Rattle.pairs.specs.Chains.{Nearest}
 use Rattle.pairs.specs.Lent.{row_of}
 use Rattle.pairs.proofs.Chains.{skipped}
@@ -29,25 +29,6 @@ conflict_access v w p = fails (conflict v w) (λ t. clash (conflict_accesses v w
 conflict_other : (v w : Event) → is_access_of v.object w ≡ false → conflict v w ≡ false
 conflict_other v w p =
     fails (conflict v w) (λ t. clash (both (conflict_accesses v w t).1 (eq-eqb w.object v.object (sym (conflict_object v w t)))) p)
-
--- n is how many entries the parts below i have, whatever vectors give the marks
-abbrev pub Counted : (Vectors → ℕ → List Entry) → ℕ → ℕ → Type 0
-Counted f i n = (R : Vectors) → n ≡ length (each (f R) i)
-
-pub count_none : (f : Vectors → ℕ → List Entry) → Counted f 0 0
-unfolding each
-count_none f R = refl
-
-module _ (f : Vectors → ℕ → List Entry) (i n m p : ℕ) where
-  pub count_more : Counted f i n → ((R : Vectors) → m ≡ length (f R i)) → p ≡ n + m → Counted f (i + 1) p
-  count_more h e q R = omega (arith, h R, e R, each_count (f R) i)
-
-  -- the parts from i on below m are empty
-  pub count_skip : ((R : Vectors) → each (f R) m ≡ each (f R) i) → Counted f i n → Counted f m n
-  count_skip e h R = h R ∙ ap length (sym (e R))
-
-  pub count_all : Counted f i n → i ≡ m → (R : Vectors) → n ≡ length (each (f R) m)
-  count_all h e R = h R ∙ ap (λ (k : ℕ). length (each (f R) k)) e
 
 module _ (E : Recording) (X : Vectors) (a b : ℕ) where
   pub race_none : conflict (event E a) (event E b) ≡ false → false ≡ race_pair E X a b
@@ -75,7 +56,7 @@ module _ (E : Recording) (X R : Vectors) where
   pub pair_miss : (a b : ℕ) → race_pair E X a b ≡ false → pair_at E X R a b ≡ []
   pair_miss a b p = rw p
 
-  pair_most : (a b : ℕ) → length (pair_at E X R a b) ≤ 1
+  pub pair_most : (a b : ℕ) → length (pair_at E X R a b) ≤ 1
   pair_most a b = cases (race_pair E X a b) (λ p. rw p (omega arith)) (λ p. rw p (omega arith))
 
 -- ---- the parts of a list by their places in an order
@@ -106,7 +87,7 @@ module _ (E : Recording) (X R : Vectors) (order : List ℕ) where
   behind_miss : (i j : ℕ) → race_pair E X (get_or order i 0) (get_or order j 0) ≡ false → pair_in E X R order i j ≡ []
   behind_miss i j p = rw p (cond_same (ltb i j))
 
-  behind_most : (i j : ℕ) → length (pair_in E X R order i j) ≤ 1
+  pub behind_most : (i j : ℕ) → length (pair_in E X R order i j) ≤ 1
   behind_most i j = cases (ltb i j) (λ p. rw p (pair_most E X R (get_or order i 0) (get_or order j 0))) (λ p. rw p (omega arith))
 
   pub row_from : (i : ℕ) → each (pair_in E X R order i) (i + 1) ≡ []
@@ -115,7 +96,7 @@ module _ (E : Recording) (X R : Vectors) (order : List ℕ) where
   row_none : (i : ℕ) → is_access (event E (get_or order i 0)) ≡ false → row_of E X R order i ≡ []
   row_none i p = row_each i ∙ each_none (pair_in E X R order i) (length order) (λ j h. behind_miss i j (race_access E X (get_or order i 0) (get_or order j 0) p))
 
-  row_most : (i : ℕ) → length (row_of E X R order i) ≤ length order
+  pub row_most : (i : ℕ) → length (row_of E X R order i) ≤ length order
   row_most i = omega (arith, ap length (row_each i), each_most (pair_in E X R order i) 1 (behind_most i) (length order))
 
   -- a place that starts a row of cell c, and one that does not
@@ -128,13 +109,13 @@ module _ (E : Recording) (X R : Vectors) (order : List ℕ) where
       cases (is_access (event E a)) (λ h. rw (and_false (is_access (event E a)) (eqb (object_of E a) c) p h))
       (λ h. rw (row_none i h) (cond_same (eqb (object_of E a) c)))
 
-  row_at_most : (c i : ℕ) → length (row_in E X R order c i) ≤ length order
+  pub row_at_most : (c i : ℕ) → length (row_in E X R order c i) ≤ length order
   row_at_most c i = cases (eqb (object_of E (get_or order i 0)) c) (λ p. rw p (row_most i)) (λ p. rw p (omega arith))
 
-  cell_most : (c : ℕ) → length order ≤ 1024 → length (cell_entries E X R order c) ≤ 1048576
+  pub cell_most : (c : ℕ) → length order ≤ 1024 → length (cell_entries E X R order c) ≤ 1048576
   cell_most c h = omega (arith, ap length (cell_each c), each_most (row_in E X R order c) 1024 (λ i. omega (arith, row_at_most c i)) (length order))
 
-  list_most : length order ≤ 1024 → length (entries_in E X R order) ≤ cells E * 1048576
+  pub list_most : length order ≤ 1024 → length (entries_in E X R order) ≤ cells E * 1048576
   unfolding entries_in
   list_most h = each_most (cell_entries E X R order) 1048576 (λ c. cell_most c h) (cells E)
 
@@ -143,28 +124,16 @@ module _ (s : List ℕ) (c : Counts) (X R : Vectors) (order : List ℕ) where
   abbrev E : Recording
   E = recording_by s c []
 
+  pub pair_passed : (i k : ℕ) → is_access_of (object_of E (get_or order i 0)) (event E (get_or order k 0)) ≡ false → pair_in E X R order i k ≡ []
+  pair_passed i k h = behind_miss E X R order i k (race_other E X (get_or order i 0) (get_or order k 0) h)
+
   pub pair_skip : (i m j : ℕ) → Nearest s order (object_of E (get_or order i 0)) m j → each (pair_in E X R order i) j ≡ each (pair_in E X R order i) m
   pair_skip i m j n =
       skipped (pair_in E X R order i) s order (object_of E (get_or order i 0)) m j n
-      (λ k h. behind_miss E X R order i k (race_other E X (get_or order i 0) (get_or order k 0) h))
+      (pair_passed i)
 
   pub pair_start : (i j : ℕ) → Nearest s order (object_of E (get_or order i 0)) (i + 1) j → each (pair_in E X R order i) j ≡ []
   pair_start i j n = pair_skip i (i + 1) j n ∙ row_from E X R order i
 
   pub row_skip : (x m j : ℕ) → Nearest s order x m j → each (row_in E X R order x) j ≡ each (row_in E X R order x) m
   row_skip x m j n = skipped (row_in E X R order x) s order x m j n (λ i h. row_miss E X R order x i h)
-
--- what was counted, whatever vectors give the marks, is as few
-module _ (E : Recording) (X : Vectors) (n : ℕ) where
-  pub pair_few : (a b : ℕ) → ((R : Vectors) → n ≡ length (pair_at E X R a b)) → n ≤ 1
-  pair_few a b e = omega (arith, e [], pair_most E X [] a b)
-
-  module _ (order : List ℕ) (h : length order ≤ 1024) where
-    pub row_few : (i : ℕ) → ((R : Vectors) → n ≡ length (row_of E X R order i)) → n ≤ 1024
-    row_few i e = omega (arith, e [], row_most E X [] order i)
-
-    pub cell_few : (c : ℕ) → ((R : Vectors) → n ≡ length (cell_entries E X R order c)) → n ≤ 1048576
-    cell_few c e = omega (arith, e [], cell_most E X [] order c h)
-
-    pub list_few : cells E ≤ 1024 → ((R : Vectors) → n ≡ length (entries_in E X R order)) → n ≤ 1073741824
-    list_few k e = omega (arith, e [], list_most E X [] order h)

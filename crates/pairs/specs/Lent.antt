@@ -7,8 +7,7 @@ use Rattle.model.specs.Recording.{Recording}
 use Rattle.model.specs.File.{recording_by}
 use Rattle.model.specs.Vectors.{Vectors}
 use Rattle.model.specs.Pairs.{Entry, entries_of, entry_numbers}
-use Rattle.passes.specs.Lent.{vectors_in, Fitting, Placed}
-use Rattle.model.specs.Reading.{most_tasks, most_cells}
+use Rattle.passes.specs.Lent.{vectors_in}
 
 -- a definition over a recording, its safe and its recorded vectors, at those that are lent; a list reads no levels, so they are []
 abbrev pub over : {A : Type 0} → (Recording → Vectors → Vectors → A) → List ℕ → Counts → List ℕ → List ℕ → A
@@ -18,22 +17,19 @@ over f s c x r = f (recording_by s c []) (vectors_in s c x) (vectors_in s c r)
 abbrev pub row_of : Recording → Vectors → Vectors → List ℕ → ℕ → List Entry
 row_of E X R order i = entries_of E X R (get_or order i 0) (drop (suc i) order)
 
--- n is how many entries f has by the safe vectors x, whatever recorded vectors give the marks
-abbrev pub HowMany : (Recording → Vectors → Vectors → List Entry) → List ℕ → Counts → List ℕ → ℕ → Type 0
-HowMany f s c x n = (R : Vectors) → n ≡ length (f (recording_by s c []) (vectors_in s c x) R)
-
--- records of few tasks and cells, the positions of their events, and the safe and the recorded vectors x and r
-pub record Lent (s : List ℕ) (c : Counts) (positions x r : List ℕ) : Type 0 where
-  pub placed : Placed s c positions
-  pub tasks : c.tasks ≤ most_tasks
-  pub cells : c.cells ≤ most_cells
-  pub safe : Fitting s c x
-  pub recorded : Fitting s c r
-
 -- the entries es are stored over `old` from place `at` on, and p is the place after them
 pub record Stored (old : List ℕ) (at : ℕ) (es : List Entry) (out : List ℕ) (p : ℕ) : Type 0 where
   pub numbers : out ≡ sets old at (entry_numbers es)
   pub next : p ≡ at + 3 * length es
+
+-- the entries es take the places from `at` to p, and where these are places of the list they are stored over `old`
+pub record Laid (old : List ℕ) (at : ℕ) (es : List Entry) (out : List ℕ) (p : ℕ) : Type 0 where
+  pub next : p ≡ at + 3 * length es
+  pub stored : p ≤ length old → Stored old at es out p
+
+-- no list that is counted has so many places, so a place is never beyond a 64 bit number
+abbrev pub far : ℕ
+far = 4294967296
 
 -- the numbers that an entry is to have room for: its own three, and two more where the caller will widen it in place
 abbrev pub Width : ℕ → Type 0

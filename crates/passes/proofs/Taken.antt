@@ -1,6 +1,7 @@
 -- Step 1: what is found is taken one event after another, and in the end the largest of all, number by number, is there.
 -- Assumes nothing.
 use Prim.Native.Nat.{ℕ, ◌+◌, ◌*◌, ◌/◌, ◌%◌, ◌<◌, zero-le, max}
+use Rattle.std.specs.Prelude.{Option, Some, None}
 use mathlib.Core.Path.{◌≡◌, refl, sym, ap, ap₂, ◌∙◌}
 use mathlib.Core.List.{List, [], ◌∷◌, ◌++◌, append_assoc}
 use native.Mathlib.Omega.{arith}
@@ -8,7 +9,6 @@ use lib.Dec.{eqb}
 use lib.ListN.{length, get_or, set}
 use Rattle.model.specs.declared.Counts.{Counts}
 use Rattle.model.specs.declared.Event.{Event}
-use Rattle.model.specs.declared.Found.{Found}
 use Rattle.model.specs.Numbers.{found, largest}
 use Rattle.model.specs.Recording.{Recording, size, tasks}
 use Rattle.model.specs.Vectors.{Vectors, number}
@@ -86,20 +86,20 @@ taken_then c {n} X e s h from more =
         ∙ sym (taken_same c X e s h (from ++ more) t k)
 
 -- one found event taken in the flat list
-pub taken_found : (c : Counts) (n : ℕ) (l : List ℕ) (e : ℕ) (f : Found) → length l ≡ n * c.tasks → e < n
+pub taken_found : (c : Counts) (n : ℕ) (l : List ℕ) (e : ℕ) (f : Option ℕ) → length l ≡ n * c.tasks → e < n
     → chunks n c.tasks (raised_found c.tasks l e f) ≡ taken c (chunks n c.tasks l) (found f) e
 unfolding taken largest
-taken_found c n l e Found.Nothing q h = sym (raised_to_none e _ (chunks_shaped n c.tasks l q) h (λ t k. zero-le))
-taken_found c n l e (Found.At a) q h =
+taken_found c n l e None q h = sym (raised_to_none e _ (chunks_shaped n c.tasks l q) h (λ t k. zero-le))
+taken_found c n l e (Some a) q h =
     let m = c.tasks in
     chunks_raised n m l e (λ t. get_or l (a * m + t) 0) q h
     ∙ raised_to_alike e _ _ (chunks_shaped n m l q) h
     (λ t k. let y = number_chunks n m l a t q k in omega arith)
 
 -- the vector of a found event lies in the list
-pub inside : (m n len : ℕ) (f : Found) → len ≡ n * m → Below n f → Inside m len f
-inside m n len Found.Nothing q b = tt
-inside m n len (Found.At a) q b = omega (arith, next_row a n m b)
+pub inside : (m n len : ℕ) (f : Option ℕ) → len ≡ n * m → Below n f → Inside m len f
+inside m n len None q b = tt
+inside m n len (Some a) q b = omega (arith, next_row a n m b)
 
 -- ---- as the definitions have it
 

@@ -2,12 +2,12 @@
 -- Assumes nothing.
 use Prim.Native.Nat.{ℕ, ◌+◌, ◌*◌, ◌<◌}
 use mathlib.Core.Path.{◌≡◌, ◌∙◌}
-use mathlib.Core.Bool.{Bool, true, false, ◌&&◌}
+use mathlib.Core.Bool.{Bool, true, false, not, ◌&&◌}
 use mathlib.Core.List.{List}
 use native.Mathlib.Omega.{arith}
 use lib.ListN.{length}
 use Rattle.model.specs.declared.Event.{Event}
-use Rattle.model.specs.Vectors.{Vectors, at_or_before, ordered}
+use Rattle.model.specs.Vectors.{Vectors, at_or_before, ordered, unordered}
 use Rattle.model.proofs.Tests.{eq-eqb, ne_eqb}
 use Rattle.vectors.proofs.Chunks.{next_row}
 
@@ -23,6 +23,10 @@ module _ (l : List Event) (X : Vectors) (a b : ℕ) where
   pub ordered_other : (a ≡ b → ⊥) → {r : Bool} → r ≡ at_or_before l X a b → r ≡ ordered l X a b
   unfolding ordered
   ordered_other h q = q ∙ rw (ne_eqb a b h)
+
+  pub unordered_by : (p q : Bool) → p ≡ ordered l X a b → q ≡ ordered l X b a → (not p && not q) ≡ unordered l X a b
+  unfolding unordered
+  unordered_by p q e f = rw (e, f)
 
 -- where the test that comes first passes, the one behind it decides
 pub and_passed : (p q x : Bool) → p ≡ true → x ≡ q → x ≡ (p && q)

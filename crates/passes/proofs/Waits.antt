@@ -62,12 +62,12 @@ module _ (p : ℕ → Bool) (out₀ out : List ℕ) (a b c : ℕ) (i : Picks p o
 
 -- ---- as the definitions have it
 
-filter-append : (q : ℕ → Bool) (l k : List ℕ) → filter q (l ++ k) ≡ filter q l ++ filter q k
+pub filter-append : (q : ℕ → Bool) (l k : List ℕ) → filter q (l ++ k) ≡ filter q l ++ filter q k
 unfolding filter
 filter-append q [] k = refl
 filter-append q (x ∷ l) k = cases (q x) (λ t. rw (t, filter-append q l k)) (λ t. rw (t, filter-append q l k))
 
-filter_picked : (p q : ℕ → Bool) (n : ℕ) → filter q (picked p n) ≡ picked (λ a. p a && q a) n
+pub filter_picked : (p q : ℕ → Bool) (n : ℕ) → filter q (picked p n) ≡ picked (λ a. p a && q a) n
 unfolding picked each filter
 filter_picked p q zero = refl
 filter_picked p q (suc n) =

@@ -2,16 +2,19 @@
 -- slots of the chains lie. Assumes nothing.
 use Prim.Native.Nat.{ℕ, zero, suc, ◌+◌, ◌≤◌, ◌<◌}
 use mathlib.Core.Path.{◌≡◌, refl, sym, ap, ◌∙◌}
-use mathlib.Core.Bool.{Bool, false, ◌&&◌}
+use mathlib.Core.Bool.{Bool, true, false, ◌&&◌}
+use mathlib.Core.List.{List, [], ◌∷◌, ◌++◌, append-nil}
 use native.Mathlib.Decide.{dec_le}
 use native.Mathlib.Numerals.{add-one}
 use native.Mathlib.Omega.{arith}
-use Rattle.model.specs.Numbers.{bit, sum, tally, picked}
+use lib.ListN.{length}
+use Rattle.model.specs.Numbers.{bit, sum, tally, count, filter, picked}
+use Rattle.model.proofs.Counting.{count_append}
 use Rattle.model.specs.Recording.{signal, wait, post}
-use Rattle.model.proofs.Tests.{lt-ltb}
+use Rattle.model.proofs.Tests.{cases, bit_true, bit_false, lt-ltb}
 use Rattle.events.specs.Chains.{Nearest, slots, slot_of}
 use Rattle.events.proofs.Laws.{tally_next}
-use Rattle.passes.proofs.Waits.{picked_miss}
+use Rattle.passes.proofs.Waits.{filter-append, picked_miss}
 
 -- what each number from m on leaves as it is
 leap : {A : Type 0} (f : ℕ → A) (m b : ℕ) → m ≤ b → ((i : ℕ) → m ≤ i → i < b → f (i + 1) ≡ f i) → f b ≡ f m
@@ -45,6 +48,31 @@ module _ {p : ℕ → Bool} {n m b : ℕ} (f : Nearest p n m b) where
 
     pub picked_leap : picked (λ i. p i && q i) b ≡ picked (λ i. p i && q i) m
     picked_leap = leap (picked (λ i. p i && q i)) m b f.low (λ i x y. picked_miss (λ i. p i && q i) i (none i x y))
+
+-- ---- one more
+
+module _ (p : ℕ → Bool) (l : List ℕ) (x : ℕ) where
+  pub count_hit : p x ≡ true → count p (l ++ x ∷ []) ≡ count p l + 1
+  unfolding count
+  count_hit t = let b = bit_true t in omega (arith, count_append p l (x ∷ []))
+
+  pub count_miss : p x ≡ false → count p (l ++ x ∷ []) ≡ count p l
+  unfolding count
+  count_miss t = let b = bit_false t in omega (arith, count_append p l (x ∷ []))
+
+  pub filter_hit : p x ≡ true → filter p (l ++ x ∷ []) ≡ filter p l ++ x ∷ []
+  unfolding filter
+  filter_hit t = rw (filter-append p l (x ∷ []), t)
+
+  pub filter_miss : p x ≡ false → filter p (l ++ x ∷ []) ≡ filter p l
+  unfolding filter
+  filter_miss t = rw (filter-append p l (x ∷ []), t) (append-nil (filter p l))
+
+-- as many at most
+pub filter_few : (p : ℕ → Bool) (l : List ℕ) → length (filter p l) ≤ length l
+unfolding filter
+filter_few p [] = omega arith
+filter_few p (x ∷ l) = let h = filter_few p l in cases (p x) (λ t. rw t (omega arith)) (λ t. rw t (omega arith))
 
 -- ---- slots
 

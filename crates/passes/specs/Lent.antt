@@ -1,8 +1,7 @@
 -- What the functions of this crate are lent, as facts about the recording of the record bytes.
 -- Assumes nothing.
-use Rattle.std.specs.Prelude.{ℕ, ◌+◌, ◌*◌, ◌≤◌, ◌<◌, ◌≡◌, List, length, get_or}
+use Rattle.std.specs.Prelude.{ℕ, ◌+◌, ◌*◌, ◌≤◌, ◌<◌, ◌≡◌, List, length, get_or, Option, Some, None}
 use Rattle.model.specs.declared.Counts.{Counts}
-use Rattle.model.specs.declared.Found.{Found}
 use Rattle.model.specs.Recording.{Recording, event_in, wait, flag_wait}
 use Rattle.model.specs.File.{events_of, recording_by}
 use Rattle.model.specs.Vectors.{Vectors}
@@ -54,11 +53,11 @@ pub record Prepared (s : List ℕ) (c : Counts) (positions sources chains : List
   pub linked : Gathered s chains
 
 -- the vector of a found event, of m numbers, lies in a list of this length
-abbrev pub Inside : ℕ → ℕ → Found → Type 0
-Inside m len (Found.At a) = a * m + m ≤ len
-Inside m len Found.Nothing = Unit {0}
+abbrev pub Inside : ℕ → ℕ → Option ℕ → Type 0
+Inside m len (Some a) = a * m + m ≤ len
+Inside m len None = Unit {0}
 
 -- vector e raised to that of a found event, in a flat list
-abbrev pub raised_found : ℕ → List ℕ → ℕ → Found → List ℕ
-raised_found m l e (Found.At s) = raised_at l (e * m) (λ t. get_or l (s * m + t) 0) m
-raised_found m l e Found.Nothing = l
+abbrev pub raised_found : ℕ → List ℕ → ℕ → Option ℕ → List ℕ
+raised_found m l e (Some s) = raised_at l (e * m) (λ t. get_or l (s * m + t) 0) m
+raised_found m l e None = l

@@ -2,14 +2,11 @@
 -- it is (document 02, No. 7). Event e has its turn in the pass that begins at `base` at the time base + e, and a pass takes 1,024.
 -- Assumes nothing.
 use Rattle.std.specs.Prelude.{ℕ, ◌+◌, ◌*◌, ◌≤◌, ◌<◌, ◌≡◌, Bool, true, cond, ◌&&◌, List, [], ltb, eqb, length, get_or, set}
-use Rattle.model.specs.declared.Counts.{Counts}
 use Rattle.model.specs.declared.Event.{Event}
 use Rattle.model.specs.Recording.{Recording, size, event_in, signal, wait, post, flag_wait}
-use Rattle.model.specs.File.{recording_by}
 use Rattle.model.specs.Vectors.{Vectors}
 use Rattle.model.specs.Passes.{raised}
 use Rattle.events.specs.Chains.{slot_of}
-use Rattle.passes.specs.Lent.{vectors_in}
 
 -- a stamp for each event, one for no event, one for each slot of the chains and one for all other events
 abbrev pub stamps : ℕ
@@ -47,10 +44,6 @@ pub record Known (E : Recording) (X : Vectors) (sources when : List ℕ) (base e
   pub past : (i : ℕ) → get_or when i 0 < base + e
   pub clean : (a since : ℕ) → a < size E → since ≤ base + a → (e ≤ a → since + 1024 ≤ base + a)
       → still E.events sources when a since ≡ true → raised E X a ≡ get_or X a []
-
--- and with lent numbers for the vectors
-abbrev pub KnownIn : List ℕ → Counts → List ℕ → List ℕ → List ℕ → List ℕ → ℕ → ℕ → Type 0
-KnownIn s c b v sources when base e = Known (recording_by s c b) (vectors_in s c v) sources when base e
 
 -- passes begin from 1,024 on and, whatever the budget, none later than at 1,024 × 2³², so no time is beyond a 64 bit number
 abbrev pub Timed : ℕ → Type 0

@@ -4,7 +4,7 @@ ghost use Rattle.model.specs.Numbers.{each};
 ghost use Rattle.printing.specs.Output.{Put};
 ghost use Rattle.printing.specs.Entries.{object_in, nth_line};
 
-use crate::lines::put_entry;
+use crate::output::Output;
 
 // The cell of an access.
 fn cell_of(records: &[u8], access: u16) -> u16
@@ -18,23 +18,25 @@ fn cell_of(records: &[u8], access: u16) -> u16
     0
 }
 
-fn put_nth(out: &mut [u8], at: usize, records: &[u8], list: &[u16], i: usize) -> usize
-    requires { (at ≤ length out.old) × (3 * i + 2 < length list.now) }
-    ensures { Put out.old out.new at (nth_line records.now list.now i) result }
-{
-    let k = 3 * i;
-    let first = list[k];
-    let cell = cell_of(records, first);
-    put_entry(out, at, cell, first, list[k + 1], list[k + 2])
-}
-
-pub fn put_entries(out: &mut [u8], at: usize, records: &[u8], list: &[u16], pairs: usize) -> usize
-    requires { (at ≤ length out.old) × (3 * pairs ≤ length list.now) }
-    ensures { Put out.old out.new at (each (nth_line records.now list.now) pairs) result }
-{
-    let mut next = at;
-    for i in 0..pairs {
-        next = put_nth(out, next, records, list, i);
+impl<'a> Output<'a> {
+    fn nth(&mut self, records: &[u8], list: &[u16], i: usize)
+        requires { 3 * i + 2 < length list.now }
+        ensures put { Put self.old.bytes.now self.new.bytes.now self.old.at (nth_line records.now list.now i) self.new.at }
+        ensures same_output { self.new.bytes.ghost_name ≡ self.old.bytes.ghost_name }
+    {
+        let k = 3 * i;
+        let first = list[k];
+        let cell = cell_of(records, first);
+        self.entry(cell, first, list[k + 1], list[k + 2]);
     }
-    next
+
+    pub fn entries(&mut self, records: &[u8], list: &[u16], pairs: usize)
+        requires { 3 * pairs ≤ length list.now }
+        ensures put { Put self.old.bytes.now self.new.bytes.now self.old.at (each (nth_line records.now list.now) pairs) self.new.at }
+        ensures same_output { self.new.bytes.ghost_name ≡ self.old.bytes.ghost_name }
+    {
+        for i in 0..pairs {
+            self.nth(records, list, i);
+        }
+    }
 }

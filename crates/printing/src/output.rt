@@ -1,42 +1,51 @@
-// Bytes put one after the other into a lent output. What does not fit is left off: a place is never
-// past the output's end.
-ghost use Rattle.std.specs.Prelude.{◌≤◌, [], ◌∷◌, length};
+// A lent output that is filled from its front. What does not fit is left off.
+ghost use Rattle.std.specs.Prelude.{◌≡◌, ◌≤◌, [], ◌∷◌, length};
 ghost use Rattle.model.specs.Text.{decimal};
 ghost use Rattle.printing.specs.Output.{Put};
 
-pub fn put_byte(out: &mut [u8], at: usize, byte: u8) -> usize
-    requires { at ≤ length out.old }
-    ensures { Put out.old out.new at (byte ∷ []) result }
-{
-    if at < out.len() {
-        out[at] = byte;
-        return at + 1;
-    }
-    at
+// A lent output and the place of its next byte, which is never past the end.
+#[derive(Drop)]
+pub struct Output<'a> {
+    pub bytes: &'a mut [u8],
+    pub at: usize,
+    pub ghost within: { at ≤ length bytes.now },
 }
 
-pub fn put_text(out: &mut [u8], at: usize, text: &[u8]) -> usize
-    requires { at ≤ length out.old }
-    ensures { Put out.old out.new at text.now result }
-{
-    let mut next = at;
-    let mut i = 0;
-    while i < text.len() {
-        next = put_byte(out, next, text[i]);
-        i += 1;
+impl<'a> Output<'a> {
+    pub fn new(bytes: &'a mut [u8]) -> Output<'a>
+        ensures empty { (result.at ≡ 0) × (result.bytes.now ≡ bytes.old) }
+        ensures same_output { result.bytes.ghost_name ≡ bytes.entry.ghost_name }
+    {
+        Output { bytes, at: 0 }
     }
-    next
-}
 
-// Puts a number in decimal: the digits of its tenth part, then its last digit.
-pub fn put_number(out: &mut [u8], at: usize, n: usize) -> usize
-    requires { at ≤ length out.old }
-    ensures { Put out.old out.new at (decimal n) result }
-{
-    let last = 48 + (n % 10) as u8;
-    if n < 10 {
-        return put_byte(out, at, last);
+    pub fn byte(&mut self, byte: u8)
+        ensures put { Put self.old.bytes.now self.new.bytes.now self.old.at (byte ∷ []) self.new.at }
+        ensures same_output { self.new.bytes.ghost_name ≡ self.old.bytes.ghost_name }
+    {
+        if self.at < self.bytes.len() {
+            self.bytes[self.at] = byte;
+            self.at += 1;
+        }
     }
-    let next = put_number(out, at, n / 10);
-    put_byte(out, next, last)
+
+    pub fn text(&mut self, text: &[u8])
+        ensures put { Put self.old.bytes.now self.new.bytes.now self.old.at text.now self.new.at }
+        ensures same_output { self.new.bytes.ghost_name ≡ self.old.bytes.ghost_name }
+    {
+        for byte in text {
+            self.byte(*byte);
+        }
+    }
+
+    // A number in decimal: the digits of its tenth part, then its last digit.
+    pub fn number(&mut self, n: usize)
+        ensures put { Put self.old.bytes.now self.new.bytes.now self.old.at (decimal n) self.new.at }
+        ensures same_output { self.new.bytes.ghost_name ≡ self.old.bytes.ghost_name }
+    {
+        if 10 <= n {
+            self.number(n / 10);
+        }
+        self.byte(b'0' + (n % 10) as u8);
+    }
 }

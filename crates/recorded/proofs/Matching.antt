@@ -1,21 +1,18 @@
--- Laws of the matches in one look: how they start and go on by one event, that the signal at hand is the matched one, and that the
--- posts at hand, one after another, are the first. Assumes nothing.
-use mathlib.Core.Path.{◌≡◌, sym, ap, subst, ◌∙◌}
+-- Laws of the matches in one look: how they start and go on by one event, and that the signal at hand is the matched one.
+-- Assumes nothing.
+use mathlib.Core.Path.{◌≡◌, ap, subst, ◌∙◌}
+use Rattle.std.specs.Prelude.{Some, None}
 use mathlib.Core.Bool.{Bool, true, false}
-use mathlib.Core.List.{List, [], ◌∷◌, ◌++◌}
+use mathlib.Core.List.{List}
 use Prim.Native.Nat.{ℕ, ◌+◌, ◌-◌, ◌≤◌, ◌<◌, min}
-use native.Mathlib.Numerals.{add-one}
 use native.Mathlib.Omega.{arith}
 use lib.Dec.{eqb}
-use lib.ListN.{length, get_or, take, set, replicate, length-set, length-replicate, get_or-replicate}
-use lib.Seq.{get_or-set_same, get_or-set_other, take-suc, take_all}
-use Rattle.model.specs.declared.Found.{Found}
-use Rattle.model.specs.Numbers.{bit, tally, picked, nth}
+use lib.ListN.{length, get_or, set, replicate, length-set, length-replicate, get_or-replicate}
+use lib.Seq.{get_or-set_same, get_or-set_other}
+use Rattle.model.specs.Numbers.{bit, tally, nth}
 use Rattle.model.specs.File.{events_of}
 use Rattle.model.specs.Passes.{events_on}
 use Rattle.model.proofs.Tests.{cases, tests, fails, second, eqb-true, lt-ltb}
-use Rattle.model.proofs.Sum.{rank_rises}
-use Rattle.model.proofs.Picked.{picked_length, rank_at}
 use Rattle.events.specs.Chains.{on_at, Nearest, head, slot_of, Chain, Gathered}
 use Rattle.events.proofs.Laws.{tally_next}
 use Rattle.recorded.specs.Matching.{signal_at, wait_at, AtHand, Matching}
@@ -48,32 +45,16 @@ module _ (p : ℕ → Bool) (n : ℕ) where
 
 -- of the events of a kind on x, b is the one at place w
 module _ (s : List ℕ) (kind x w b : ℕ) (h : AtHand (on_at s kind x) (length (events_of s)) w b) where
-  pub hand_at : b < length (events_of s) → Found.At b ≡ nth (events_on (events_of s) kind x) w
+  pub hand_at : b < length (events_of s) → Some b ≡ nth (events_on (events_of s) kind x) w
   unfolding events_on
   hand_at l = nth_here (on_at s kind x) (length (events_of s)) w b l (h.hit l) (h.rank l)
 
   few : length (events_of s) ≤ b → tally (on_at s kind x) (length (events_of s)) ≤ w
   few l = let q : b ≡ length (events_of s) = omega (arith, h.high) in rw q at h.most
 
-  pub hand_none : length (events_of s) ≤ b → Found.Nothing ≡ nth (events_on (events_of s) kind x) w
+  pub hand_none : length (events_of s) ≤ b → None ≡ nth (events_on (events_of s) kind x) w
   unfolding events_on
   hand_none l = nth_none (on_at s kind x) (length (events_of s)) w (few l)
-
-  -- with the w before it, it makes the first w + 1; where there is none, those before are all
-  pub first_more : b < length (events_of s) → take w (events_on (events_of s) kind x) ++ b ∷ [] ≡ take (w + 1) (events_on (events_of s) kind x)
-  unfolding events_on
-  first_more l =
-      let n = length (events_of s) in
-      let p = on_at s kind x in
-      let at : get_or (picked p n) w 0 ≡ b = ap (λ (k : ℕ). get_or (picked p n) k 0) (sym (h.rank l)) ∙ rank_at p n b l (h.hit l) in
-      rw (add-one w, take-suc (picked p n) w 0 (omega (arith, h.rank l, rank_rises p b n l (h.hit l), picked_length p n)), at)
-
-  pub first_all : length (events_of s) ≤ b → (m : ℕ) → w ≤ m → take w (events_on (events_of s) kind x) ≡ take m (events_on (events_of s) kind x)
-  unfolding events_on
-  first_all l m k =
-      let on = picked (on_at s kind x) (length (events_of s)) in
-      let z = picked_length (on_at s kind x) (length (events_of s)) in
-      take_all w on (omega (arith, few l)) ∙ sym (take_all m on (omega (arith, few l)))
 
 -- ---- the running state
 

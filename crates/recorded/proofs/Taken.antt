@@ -1,11 +1,11 @@
 -- What an event of the recorded run takes: none, one more, and in the end all that it follows.
 -- Assumes nothing.
 use Prim.Native.Nat.{ℕ, ◌*◌, ◌<◌, zero-le}
+use Rattle.std.specs.Prelude.{Option}
 use mathlib.Core.Path.{◌≡◌, sym, ap, ◌∙◌}
 use mathlib.Core.List.{List, [], ◌++◌}
 use lib.ListN.{length}
 use Rattle.model.specs.declared.Counts.{Counts}
-use Rattle.model.specs.declared.Found.{Found}
 use Rattle.model.specs.Numbers.{found, largest}
 use Rattle.model.specs.Recording.{Recording, size, tasks}
 use Rattle.model.specs.Vectors.{Vectors}
@@ -26,7 +26,7 @@ unfolding taken largest
 taken_none c X e s h = raised_to_none e _ s h (λ t k. zero-le)
 
 -- one found event taken in the flat list, after others
-pub found_then : (c : Counts) (n : ℕ) (l k : List ℕ) (e : ℕ) (from : List ℕ) (f : Found) → length l ≡ n * c.tasks → length k ≡ n * c.tasks → e < n
+pub found_then : (c : Counts) (n : ℕ) (l k : List ℕ) (e : ℕ) (from : List ℕ) (f : Option ℕ) → length l ≡ n * c.tasks → length k ≡ n * c.tasks → e < n
     → chunks n c.tasks k ≡ taken c (chunks n c.tasks l) from e
     → chunks n c.tasks (raised_found c.tasks k e f) ≡ taken c (chunks n c.tasks l) (from ++ found f) e
 found_then c n l k e from f p q h r =

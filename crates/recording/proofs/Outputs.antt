@@ -1,5 +1,6 @@
 -- What writing checks, answers and leaves in the output, test by test, and the level bytes that it joins. Assumes nothing.
 use mathlib.Core.Path.{◌≡◌, ap, ◌∙◌}
+use Rattle.std.specs.Prelude.{Result, Ok, Err}
 use mathlib.Core.Bool.{Bool, true, false, ◌&&◌}
 use mathlib.Core.List.{List, ◌++◌}
 use Prim.Native.Nat.{ℕ, ◌+◌, ◌/◌, ◌%◌, ◌≤◌, ◌<◌}
@@ -9,9 +10,7 @@ use lib.ListN.{length, take, drop, length-append}
 use lib.Seq.{take-append_seam, take_at}
 use Rattle.model.specs.declared.Counts.{Counts}
 use Rattle.model.specs.declared.Refusal.{Refusal}
-use Rattle.model.specs.declared.Check.{Check}
-use Rattle.model.specs.declared.Written.{Written}
-use Rattle.model.specs.Refusals.{after}
+use Rattle.model.specs.Refusals.{Check, after}
 use Rattle.model.specs.Recording.{size, flags_of, first_fault}
 use Rattle.model.specs.File.{start_count, recording_by}
 use Rattle.model.specs.Reading.{known_edition, in_range, posts_up}
@@ -28,17 +27,17 @@ together p q = rw (p, q)
 -- ---- the checks of what is lent, in their order
 
 module _ (s : List ℕ) (c : Counts) (b p : List ℕ) where
-  pub other_edition : known_edition c ≡ false → Check.Failed Refusal.Edition ≡ lent_check s c b p
+  pub other_edition : known_edition c ≡ false → Err Refusal.Edition ≡ lent_check s c b p
   unfolding lent_check
   other_edition k = rw k
 
   module _ (k : known_edition c ≡ true) where
-    pub ragged : (length s % 4 ≡ 0 → ⊥) → Check.Failed Refusal.Extent ≡ lent_check s c b p
+    pub ragged : (length s % 4 ≡ 0 → ⊥) → Err Refusal.Extent ≡ lent_check s c b p
     unfolding lent_check
     ragged a = rw (k, ne_eqb (length s % 4) 0 a)
 
     module _ (a : length s % 4 ≡ 0) where
-      pub beyond : (in_range c (length s / 4) && posts_up p) ≡ false → Check.Failed Refusal.Count ≡ lent_check s c b p
+      pub beyond : (in_range c (length s / 4) && posts_up p) ≡ false → Err Refusal.Count ≡ lent_check s c b p
       unfolding lent_check
       beyond r =
           cases (in_range c (length s / 4)) (λ t. let u : posts_up p ≡ false = rw t at r in rw (k, a, t, u)) (λ t. rw (k, a, t))
@@ -50,16 +49,16 @@ module _ (s : List ℕ) (c : Counts) (b p : List ℕ) where
         up : posts_up p ≡ true
         up = second (in_range c (length s / 4)) (posts_up p) r
 
-        pub other_number : levels_fit c b p ≡ false → Check.Failed Refusal.Starts ≡ lent_check s c b p
+        pub other_number : levels_fit c b p ≡ false → Err Refusal.Starts ≡ lent_check s c b p
         unfolding lent_check
         other_number d = rw (k, a, in_counts, up, d)
 
-        pub all_kept : levels_fit c b p ≡ true → Check.Passed ≡ lent_check s c b p
+        pub all_kept : levels_fit c b p ≡ true → Ok tt ≡ lent_check s c b p
         unfolding lent_check
         all_kept d = rw (k, a, in_counts, up, d)
 
   -- where they pass, the counts are in range, and the level bytes are few
-  module _ (l : lent_check s c b p ≡ Check.Passed) where
+  module _ (l : lent_check s c b p ≡ Ok tt) where
     parts : (in_range c (length s / 4) ≡ true) × (levels_fit c b p ≡ true)
     unfolding lent_check
     parts =
@@ -87,7 +86,7 @@ module _ (s : List ℕ) (c : Counts) (b p : List ℕ) where
       unfolding writing_check records_check filing_check
       filing = rw (l, e)
 
-      pub answered : (r : Written) → r ≡ written_by (file_length s m) (filing_check s c m out) → r ≡ written_of s c b p out
+      pub answered : (r : Result ℕ Refusal) → r ≡ written_by (file_length s m) (filing_check s c m out) → r ≡ written_of s c b p out
       unfolding written_of
       answered r q = rw (filing, ← e) q
 
@@ -96,8 +95,8 @@ module _ (s : List ℕ) (c : Counts) (b p : List ℕ) where
       left last q = rw (filing, ← e) q
 
   -- where one fails, its refusal is answered, and the output stays
-  module _ (r : Refusal) (l : lent_check s c b p ≡ Check.Failed r) (out : List ℕ) where
-    pub refused : Written.Refused r ≡ written_of s c b p out
+  module _ (r : Refusal) (l : lent_check s c b p ≡ Err r) (out : List ℕ) where
+    pub refused : Err r ≡ written_of s c b p out
     unfolding written_of writing_check records_check
     refused = rw l
 
@@ -113,21 +112,21 @@ short s c r = let i = in_range_lem c (length s / 4) r in omega (arith, i.few_rec
 
 module _ (s : List ℕ) (c : Counts) (b out : List ℕ) where
   module _ (x : Check) (q : x ≡ first_fault (recording_by s c b) (length s / 4)) where
-    pub faulty : (r : Refusal) → x ≡ Check.Failed r → Check.Failed r ≡ filing_check s c b out
+    pub faulty : (r : Refusal) → x ≡ Err r → Err r ≡ filing_check s c b out
     unfolding filing_check
     faulty r e = rw (events_length s, ← q, e)
 
-    module _ (e : x ≡ Check.Passed) where
-      pub no_room : length out < file_length s b → Check.Failed Refusal.Out ≡ filing_check s c b out
+    module _ (e : x ≡ Ok tt) where
+      pub no_room : length out < file_length s b → Err Refusal.Out ≡ filing_check s c b out
       unfolding filing_check
       no_room l = rw (events_length s, ← q, e, lt-leb (file_length s b) (length out) l)
 
-      pub room : file_length s b ≤ length out → Check.Passed ≡ filing_check s c b out
+      pub room : file_length s b ≤ length out → Ok tt ≡ filing_check s c b out
       unfolding filing_check
       room l = rw (events_length s, ← q, e, le-leb (file_length s b) (length out) l)
 
   -- where it passes the output has room
-  pub fits : filing_check s c b out ≡ Check.Passed → file_length s b ≤ length out
+  pub fits : filing_check s c b out ≡ Ok tt → file_length s b ≤ length out
   unfolding filing_check
   fits p =
       let (f, q) = then_passed (let E = recording_by s c b in first_fault E (size E)) _ p in

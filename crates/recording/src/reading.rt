@@ -4,7 +4,7 @@ ghost use Rattle.model.specs.File.{u32_at, trailer_of};
 ghost use Rattle.model.specs.Reading.{reading_of, preamble_of, records_of, starts_of, posts_of};
 ghost use Rattle.recording.specs.Parts.{level_part};
 
-use model::{Check, Counts, Reading, Refusal, Trailer};
+use model::{Counts, Refusal, Trailer};
 use rules::{first_fault, in_range, known_edition, posts_up};
 
 // The number of four bytes, little-endian.
@@ -33,33 +33,31 @@ fn trailer_of(file: &[u8]) -> Trailer
 }
 
 // Reads a file: its trailer, or the first refusal of the table.
-pub fn read(file: &[u8]) -> Reading
+pub fn read(file: &[u8]) -> Result<Trailer, Refusal>
     ensures { result ≡ reading_of file.now }
 {
     if file.len() < 16 {
-        return Reading::Refused(Refusal::Short);
+        return Err(Refusal::Short);
     }
     let t = file.len() - 16;
     let h = trailer_of(file);
     let counts = h.counts;
     if !known_edition(counts) {
-        return Reading::Refused(Refusal::Edition);
+        return Err(Refusal::Edition);
     }
     let level_bytes = events::level_count(counts);
     if h.start + 4 * h.records + level_bytes != t {
-        return Reading::Refused(Refusal::Extent);
+        return Err(Refusal::Extent);
     }
     if !in_range(counts, h.records) {
-        return Reading::Refused(Refusal::Count);
+        return Err(Refusal::Count);
     }
     let levels = events::levels_of(file, h);
     if !posts_up(events::post_bytes(levels, counts)) {
-        return Reading::Refused(Refusal::Count);
+        return Err(Refusal::Count);
     }
-    match first_fault(events::records_of(file, h), counts, levels, h.records) {
-        Check::Passed => Reading::Accepted(h),
-        Check::Failed(r) => Reading::Refused(r),
-    }
+    first_fault(events::records_of(file, h), counts, levels, h.records)?;
+    Ok(h)
 }
 
 // The part of the file before the first record; of a refused file, the empty part.
@@ -67,11 +65,11 @@ pub fn preamble(file: &[u8]) -> &[u8]
     ensures { result.now ≡ preamble_of file.now }
 {
     match read(file) {
-        Reading::Accepted(h) => {
+        Ok(h) => {
             let start = h.start;
             &file[..start]
         }
-        Reading::Refused(_) => &file[..0],
+        Err(_) => &file[..0],
     }
 }
 
@@ -80,8 +78,8 @@ pub fn records(file: &[u8]) -> &[u8]
     ensures { result.now ≡ records_of file.now }
 {
     match read(file) {
-        Reading::Accepted(h) => events::records_of(file, h),
-        Reading::Refused(_) => &file[..0],
+        Ok(h) => events::records_of(file, h),
+        Err(_) => &file[..0],
     }
 }
 
@@ -90,8 +88,8 @@ fn levels(file: &[u8]) -> &[u8]
     ensures { result.now ≡ level_part file.now }
 {
     match read(file) {
-        Reading::Accepted(h) => events::levels_of(file, h),
-        Reading::Refused(_) => &file[..0],
+        Ok(h) => events::levels_of(file, h),
+        Err(_) => &file[..0],
     }
 }
 

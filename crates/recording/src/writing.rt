@@ -5,7 +5,7 @@ ghost use Rattle.model.specs.Reading.{in_range};
 ghost use Rattle.model.specs.Writing.{file_of, file_length, levels_fit, lent_check, written_by, written_of, out_after_writing};
 ghost use Rattle.recording.specs.Filing.{filing_check};
 
-use model::{Check, Counts, Refusal, Written};
+use model::{Counts, Refusal};
 use rules::{first_fault, in_range, known_edition, posts_up};
 
 // The most level bytes: a start byte for each of 64 semaphores and a post byte for each of 64 flags.
@@ -21,24 +21,24 @@ fn levels_fit(counts: Counts, starts: &[u8], posts: &[u8]) -> bool
 }
 
 // The checks of the counts and of the lent bytes: 2, 3, 4, 13.
-fn lent_check(records: &[u8], counts: Counts, starts: &[u8], posts: &[u8]) -> Check
+fn lent_check(records: &[u8], counts: Counts, starts: &[u8], posts: &[u8]) -> Result<(), Refusal>
     ensures { result ≡ lent_check records.now counts starts.now posts.now }
 {
     if !known_edition(counts) {
-        return Check::Failed(Refusal::Edition);
+        return Err(Refusal::Edition);
     }
     if records.len() % 4 != 0 {
-        return Check::Failed(Refusal::Extent);
+        return Err(Refusal::Extent);
     }
     let ranged = in_range(counts, records.len() / 4) & posts_up(posts);
     let fitting = levels_fit(counts, starts, posts);
     if !ranged {
-        return Check::Failed(Refusal::Count);
+        return Err(Refusal::Count);
     }
     if !fitting {
-        return Check::Failed(Refusal::Starts);
+        return Err(Refusal::Starts);
     }
-    Check::Passed
+    Ok(())
 }
 
 // The level bytes: the start bytes, then the post bytes.
@@ -53,22 +53,24 @@ fn join_levels(starts: &[u8], posts: &[u8]) -> [u8; LEVELS]
 }
 
 // The checks of what the file would hold, and whether the output has room for it.
-fn filing_check(records: &[u8], counts: Counts, levels: &[u8], out: &[u8]) -> Check
+fn filing_check(records: &[u8], counts: Counts, levels: &[u8], out: &[u8]) -> Result<(), Refusal>
     requires { (in_range counts (length records.now / 4) ≡ true) × (length levels.now ≤ 128) }
     ensures { result ≡ filing_check records.now counts levels.now out.now }
 {
-    let check = first_fault(records, counts, levels, records.len() / 4);
-    if let Check::Failed(r) = check {
-        return Check::Failed(r);
-    }
+    first_fault(records, counts, levels, records.len() / 4)?;
     if out.len() < records.len() + levels.len() + 16 {
-        return Check::Failed(Refusal::Out);
+        return Err(Refusal::Out);
     }
-    Check::Passed
+    Ok(())
 }
 
 // Makes these checks, and writes the file where they pass.
-fn write_checked(records: &[u8], counts: Counts, levels: &[u8], out: &mut [u8]) -> Written
+fn write_checked(
+    records: &[u8],
+    counts: Counts,
+    levels: &[u8],
+    out: &mut [u8],
+) -> Result<usize, Refusal>
     requires { (in_range counts (length records.now / 4) ≡ true) × (length levels.now ≤ 128) }
     ensures value { result ≡ written_by (file_length records.now levels.now)
         (filing_check records.now counts levels.now out.old) }
@@ -76,13 +78,9 @@ fn write_checked(records: &[u8], counts: Counts, levels: &[u8], out: &mut [u8]) 
         (λ _. file_of records.now counts levels.now ++ drop (file_length records.now levels.now) out.old)
         out.old }
 {
-    match filing_check(records, counts, levels, out) {
-        Check::Passed => {
-            layout::put_file(records, counts, levels, out);
-            Written::Length(records.len() + levels.len() + 16)
-        }
-        Check::Failed(r) => Written::Refused(r),
-    }
+    filing_check(records, counts, levels, out)?;
+    layout::put_file(records, counts, levels, out);
+    Ok(records.len() + levels.len() + 16)
 }
 
 // Writes a file of these record bytes, counts, edition, start bytes and post bytes, with start 0, and answers its length. What is
@@ -96,7 +94,7 @@ pub fn write(
     starts: &[u8],
     posts: &[u8],
     out: &mut [u8],
-) -> Written
+) -> Result<usize, Refusal>
     ensures value { result ≡ written_of records.now (record { tasks = tasks; semaphores = semaphores; cells = cells; edition = edition })
         starts.now posts.now out.old }
     ensures out_after { out.new ≡ out_after_writing records.now (record { tasks = tasks; semaphores = semaphores; cells = cells; edition = edition })
@@ -108,12 +106,8 @@ pub fn write(
         cells,
         edition,
     };
-    match lent_check(records, counts, starts, posts) {
-        Check::Passed => {
-            let levels = join_levels(starts, posts);
-            let n = starts.len() + posts.len();
-            write_checked(records, counts, &levels[..n], out)
-        }
-        Check::Failed(r) => Written::Refused(r),
-    }
+    lent_check(records, counts, starts, posts)?;
+    let levels = join_levels(starts, posts);
+    let n = starts.len() + posts.len();
+    write_checked(records, counts, &levels[..n], out)
 }

@@ -1,11 +1,12 @@
 -- The report of the answer is that of the file.
 -- Assumes nothing.
 use Prim.Native.Nat.{ℕ, ◌*◌, ◌/◌, ◌≤◌, ◌<◌}
+use Rattle.std.specs.Prelude.{Result, Ok, Err}
 use mathlib.Core.Path.{◌≡◌, refl, sym, ap, ◌∙◌}
 use mathlib.Core.List.{List, ◌++◌}
 use native.Mathlib.Omega.{arith}
 use lib.ListN.{length, drop, length-append}
-use Rattle.model.specs.declared.Check.{Check}
+use Rattle.model.specs.Refusals.{Check}
 use Rattle.model.specs.declared.Refusal.{Refusal}
 use Rattle.model.specs.declared.Analysis.{Analysis}
 use Rattle.model.specs.Recording.{size, tasks}
@@ -31,25 +32,25 @@ use Rattle.printing.proofs.Listing.{each_entry}
 module _ (f : List ℕ) where
   -- ---- an accepted file: its records, events and tasks
 
-  the_records : file_check f ≡ Check.Passed → records_of f ≡ record_bytes f (trailer_of f)
+  the_records : file_check f ≡ Ok tt → records_of f ≡ record_bytes f (trailer_of f)
   unfolding records_of
   the_records q = rw q
 
-  the_events : file_check f ≡ Check.Passed → length (records_of f) / 4 ≡ size (recording_of f)
+  the_events : file_check f ≡ Ok tt → length (records_of f) / 4 ≡ size (recording_of f)
   unfolding recording_of
   the_events q = rw (the_records q) (sym (events_length (record_bytes f (trailer_of f))))
 
-  the_tasks : file_check f ≡ Check.Passed → tasks_in (reading_of f) ≡ tasks (recording_of f)
+  the_tasks : file_check f ≡ Ok tt → tasks_in (reading_of f) ≡ tasks (recording_of f)
   unfolding reading_of recording_of
   the_tasks q = rw q
 
   -- ---- the budget of an accepted file is N × N + 1, and that of a refused file does not matter
 
-  alike : {A : Type 0} (g : ℕ → A) (c : Check) → file_check f ≡ c → ((r : Refusal) → file_check f ≡ Check.Failed r → g (budget_in (records_of f)) ≡ g (budget_of (recording_of f)))
+  alike : {A : Type 0} (g : ℕ → A) (c : Check) → file_check f ≡ c → ((r : Refusal) → file_check f ≡ Err r → g (budget_in (records_of f)) ≡ g (budget_of (recording_of f)))
       → g (budget_in (records_of f)) ≡ g (budget_of (recording_of f))
   unfolding reading_of
-  alike g Check.Passed q h = ap g (the_budget f (trailer_of f) (rw q) (records_of f) (the_records q) (level_bytes f (trailer_of f)) refl)
-  alike g (Check.Failed r) q h = h r q
+  alike g (Ok tt) q h = ap g (the_budget f (trailer_of f) (rw q) (records_of f) (the_records q) (level_bytes f (trailer_of f)) refl)
+  alike g (Err r) q h = h r q
 
   pub same_answer : (work list : List ℕ) → analysis_of f (budget_in (records_of f)) work list ≡ analysis_of f (budget_of (recording_of f)) work list
   unfolding analysis_of analysis_check work_check
@@ -68,21 +69,21 @@ module _ (f : List ℕ) where
   module _ (b : ℕ) (work list : List ℕ) where
     pub held : (c : Check) → analysis_check f b work list ≡ c → Holds (analysis_of f b work list) (list_after_analysing f b work list)
     unfolding analysis_of list_after_analysing
-    held Check.Passed q =
+    held (Ok tt) q =
         let l = listed (recording_of f) b in
         rw q (omega (arith, length-append (entry_numbers l) (drop (3 * length l) list), numbers_length l))
-    held (Check.Failed r) q = rw q tt
+    held (Err r) q = rw q tt
 
     pub the_answer : (c : Check) → analysis_check f b work list ≡ c
         → answer_text (records_of f) (tasks_in (reading_of f)) (analysis_of f b work list) (list_after_analysing f b work list) ≡ report_by (recording_of f) b c
     unfolding answer_text analysis_of list_after_analysing result_text recording_of
-    the_answer Check.Passed q =
+    the_answer (Ok tt) q =
         let p = (analysis_passed f b work list q).0 in
         let E = recording_of f in
         let l = listed E b in
         rw (q, the_events p, the_tasks p, the_records p)
         (ap (λ (x : List ℕ). result_line (size E) (tasks E) (run E b).passes (run E b).settled (length l) ++ x) (each_entry (record_bytes f (trailer_of f)) l (drop (3 * length l) list)))
-    the_answer (Check.Failed r) q = rw q
+    the_answer (Err r) q = rw q
 
 -- ---- what the program prints, and what it leaves
 
@@ -97,7 +98,7 @@ long_printed f work list out out' r h p =
     let (o, n) = put_laid out out' (bytes "too long\n") r p in rw (lt-ltb most_bytes (length f) h) (n, (o, (refl, refl)))
 
 -- a file that is not too long: what the calls gave
-pub record Called (f work list s : List ℕ) (b t : ℕ) (a : Analysis) (work' list' : List ℕ) : Type 0 where
+pub record Called (f work list s : List ℕ) (b t : ℕ) (a : Result Analysis Refusal) (work' list' : List ℕ) : Type 0 where
   pub records : s ≡ records_of f
   pub budget : b ≡ budget_in s
   pub tasks : t ≡ tasks_in (reading_of f)
@@ -105,7 +106,7 @@ pub record Called (f work list s : List ℕ) (b t : ℕ) (a : Analysis) (work' l
   pub work_left : work' ≡ work_after_analysing f b work
   pub list_left : list' ≡ list_after_analysing f b work list
 
-module _ (f work list s : List ℕ) (b t : ℕ) (a : Analysis) (work' list' : List ℕ) (c : Called f work list s b t a work' list') where
+module _ (f work list s : List ℕ) (b t : ℕ) (a : Result Analysis Refusal) (work' list' : List ℕ) (c : Called f work list s b t a work' list') where
   the_call : b ≡ budget_in (records_of f)
   the_call = c.budget ∙ ap budget_in c.records
 

@@ -16,7 +16,7 @@ pub fn report(file: &[u8], work: &mut [u16], list: &mut [u16], out: &mut [u8]) -
     ensures list_after { list.new ≡ list_after_reporting file.now work.old list.old }
 {
     if MOST_BYTES < file.len() {
-        return printing::output::put_text(out, 0, b"too long\n");
+        return printing::answer::put_text(out, b"too long\n");
     }
     let records = recording::records(file);
     let budget = work::budget_of(records);

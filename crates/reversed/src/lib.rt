@@ -2,114 +2,88 @@
 // comes earlier than another one.
 #![tactic(auto)]
 
-ghost use Rattle.std.specs.Prelude.{◌≡◌, ◌+◌, ◌/◌, ◌≤◌, length, take};
-ghost use Rattle.std.proofs.lemmas.List.Edits.{sets};
+ghost use Rattle.std.specs.Prelude.{◌≡◌, ◌+◌, ◌≤◌, ◌++◌, length};
 ghost use Rattle.model.specs.File.{events_of};
 ghost use Rattle.model.specs.Reading.{reading_of, most_events, most_semaphores, most_flags};
 ghost use Rattle.model.specs.Reversed.{bring_forward, reversed_of, work_after_reversing, out_after_reversing};
-ghost use Rattle.passes.specs.Lent.{vectors_in, Fitting, Numbered, Placed};
-ghost use Rattle.reversed.specs.Lent.{on_side, side_of, forward_of, forward_out, Reversed};
+ghost use Rattle.passes.specs.Lent.{Numbered};
+ghost use Rattle.passes.specs.Lookups.{vectors_of};
+ghost use Rattle.reversed.specs.Lent.{side_by, on_side_by, forward_of, forward_out, Reversed};
 
-use model::{Check, Counts, MOST_EVENTS, Reading, Refusal, Trailer, Written};
+use arrayvec::ArrayVec;
+use events::Parts;
+use model::{MOST_EVENTS, Refusal, Trailer};
+use passes::EventVectors;
+use work::ReadyEvents;
 
 // Whether the vectors put event a at or before event x, or else the opposite.
-fn on_side(
-    records: &[u8],
-    counts: Counts,
-    positions: &[u16],
-    v: &[u16],
-    a: usize,
-    x: usize,
-    first: bool,
-) -> bool
-    requires placed { Placed records.now counts positions.now × Fitting records.now counts v.now }
-    requires numbered { Numbered records.now a × Numbered records.now x }
-    ensures { result ≡ on_side records.now counts v.now x first a }
+fn on_side(vectors: &EventVectors, a: usize, x: usize, first: bool) -> bool
+    requires { Numbered vectors.now.records.now a × Numbered vectors.now.records.now x }
+    ensures { result ≡ on_side_by vectors.now x first a }
 {
-    let before = passes::at_or_before(records, counts, positions, v, a, x);
+    let before = vectors.at_or_before(a, x);
     if first {
         return before;
     }
     !before
 }
 
-// Puts the events that the vectors put at or before x, or else the others, in file order into the order from place `at` on. Answers
-// the place after them.
-fn put_side(
-    records: &[u8],
-    counts: Counts,
-    positions: &[u16],
-    v: &[u16],
-    x: usize,
-    first: bool,
-    order: &mut [u16; MOST_EVENTS],
-    at: usize,
-) -> usize
-    requires placed { Placed records.now counts positions.now × Fitting records.now counts v.now × Numbered records.now x }
-    requires first_bound { at + length (side_of records.now counts v.now x first) ≤ most_events }
-    ensures order_after { order.new ≡ sets order.old at (side_of records.now counts v.now x first) }
-    ensures value { result ≡ at + length (side_of records.now counts v.now x first) }
+// Puts the events that the vectors put at or before x, or else the others, in file order behind the order.
+fn put_side(vectors: &EventVectors, x: usize, first: bool, order: &mut ArrayVec<u16, MOST_EVENTS>)
+    requires { Numbered vectors.now.records.now x × (length order.old.items + length (side_by vectors.now x first) ≤ most_events) }
+    ensures { order.new.items ≡ order.old.items ++ side_by vectors.now x first }
 {
-    let n = records.len() / 4;
-    let mut next = at;
-    let mut a = 0;
-    while a < n {
-        if on_side(records, counts, positions, v, a, x, first) {
-            order[next] = a as u16;
-            next += 1;
+    for a in 0..vectors.records.len() / 4 {
+        if on_side(vectors, a, x, first) {
+            order.push(a as u16);
         }
-        a += 1;
     }
-    next
 }
 
 // The order that brings x forward: the events that the vectors put at or before it, then the others, each in file order.
-fn bring_forward(
-    records: &[u8],
-    counts: Counts,
-    positions: &[u16],
-    v: &[u16],
-    x: usize,
-) -> [u16; MOST_EVENTS]
-    requires { Placed records.now counts positions.now × Fitting records.now counts v.now × Numbered records.now x }
-    ensures { take (length records.now / 4) result ≡ bring_forward (events_of records.now) (vectors_in records.now counts v.now) x }
+fn bring_forward(vectors: &EventVectors, x: usize) -> ArrayVec<u16, MOST_EVENTS>
+    requires { Numbered vectors.now.records.now x }
+    ensures { result.items ≡ bring_forward (events_of vectors.now.records.now) (vectors_of vectors.now) x }
 {
-    let mut order = [0u16; MOST_EVENTS];
-    let at = put_side(records, counts, positions, v, x, true, &mut order, 0);
-    put_side(records, counts, positions, v, x, false, &mut order, at);
+    let mut order = ArrayVec::new();
+    put_side(vectors, x, true, &mut order);
+    put_side(vectors, x, false, &mut order);
     order
 }
 
 // Writes the records with the chosen event brought forward by the recorded vectors, unless these order it and the other event.
 fn write_forward(
-    records: &[u8],
-    counts: Counts,
+    recorded: &EventVectors,
     levels: &[u8],
-    positions: &[u16],
-    recorded: &[u16],
     chosen: usize,
     other: usize,
     out: &mut [u8],
-) -> Written
-    requires placed { Placed records.now counts positions.now × Fitting records.now counts recorded.now × (length levels.now ≤ most_semaphores + most_flags) }
-    requires numbered { Numbered records.now chosen × Numbered records.now other }
-    ensures value { result ≡ forward_of records.now levels.now (vectors_in records.now counts recorded.now) chosen other out.old }
-    ensures out_after { out.new ≡ forward_out records.now counts levels.now (vectors_in records.now counts recorded.now) chosen other out.old }
+) -> Result<usize, Refusal>
+    requires levels { length levels.now ≤ most_semaphores + most_flags }
+    requires numbered { Numbered recorded.now.records.now chosen × Numbered recorded.now.records.now other }
+    ensures value { result ≡ forward_of recorded.now.records.now levels.now (vectors_of recorded.now) chosen other out.old }
+    ensures out_after { out.new ≡ forward_out recorded.now.records.now recorded.now.counts levels.now (vectors_of recorded.now) chosen other out.old }
 {
-    if !pairs::unordered(records, counts, positions, recorded, chosen, other) {
-        return Written::Refused(Refusal::Unsure);
+    if !recorded.unordered(chosen, other) {
+        return Err(Refusal::Unsure);
     }
-    let length = records.len() + levels.len() + 16;
+    let length = recorded.records.len() + levels.len() + 16;
     if out.len() < length {
-        return Written::Refused(Refusal::Out);
+        return Err(Refusal::Out);
     }
-    let n = records.len() / 4;
-    let order = bring_forward(records, counts, positions, recorded, chosen);
-    layout::put_picked(records, &order[..n], counts, levels, out);
-    Written::Length(length)
+    let order = bring_forward(recorded, chosen);
+    layout::put_picked(
+        recorded.records,
+        order.as_slice(),
+        recorded.counts,
+        levels,
+        out,
+    );
+    Ok(length)
 }
 
 // The call on a file that reading accepts with this trailer.
+#[tactic(auto, using(work::proofs::Accepted::levels_inside))]
 fn reverse_read(
     file: &[u8],
     trailer: Trailer,
@@ -117,23 +91,21 @@ fn reverse_read(
     other: usize,
     work: &mut [u16],
     out: &mut [u8],
-) -> Written
-    requires { reading_of file.now ≡ Reading.Accepted trailer }
+) -> Result<usize, Refusal>
+    requires { reading_of file.now ≡ Ok trailer }
     ensures { Reversed file.now chosen other work.old out.old result work.new out.new }
 {
-    let records = events::records_of(file, trailer);
-    let counts = trailer.counts;
-    let levels = events::levels_of(file, trailer);
-    let positions = events::positions(records);
-    match work::fill_asked(records, counts, levels, &positions, chosen, other, 0, work) {
-        Check::Passed => {
-            let recorded = work::recorded_part(records, counts, work);
-            write_forward(
-                records, counts, levels, &positions, recorded, chosen, other, out,
-            )
-        }
-        Check::Failed(r) => Written::Refused(r),
-    }
+    let parts = Parts::of(file, trailer);
+    let positions = events::positions(parts.records);
+    let ready = ReadyEvents {
+        records: parts.records,
+        counts: parts.counts,
+        levels: parts.levels,
+        positions: &positions,
+    };
+    ready.fill_asked(chosen, other, 0, work)?;
+    let recorded = ready.recorded(work);
+    write_forward(&recorded, parts.levels, chosen, other, out)
 }
 
 // Writes a recording that shows the chosen event earlier than the other: the events that the recorded run puts at or before the
@@ -146,13 +118,11 @@ pub fn write_reversed(
     other: usize,
     work: &mut [u16],
     out: &mut [u8],
-) -> Written
+) -> Result<usize, Refusal>
     ensures value { result ≡ reversed_of file.now chosen other work.old out.old }
     ensures work_after { work.new ≡ work_after_reversing file.now chosen other work.old }
     ensures out_after { out.new ≡ out_after_reversing file.now chosen other work.old out.old }
 {
-    match recording::read(file) {
-        Reading::Accepted(trailer) => reverse_read(file, trailer, chosen, other, work, out),
-        Reading::Refused(r) => Written::Refused(r),
-    }
+    let trailer = recording::read(file)?;
+    reverse_read(file, trailer, chosen, other, work, out)
 }

@@ -1,21 +1,30 @@
 // Numbers and bytes in lent slices. A read past the end gives 0 and a write there does nothing, so
 // that no index needs a proof.
-ghost use Rattle.std.specs.Prelude.{◌≡◌, ◌-◌, ◌≤◌, true, length};
+ghost use Rattle.std.specs.Prelude.{◌≡◌, ◌+◌, ◌-◌, ◌%◌, ◌^◌, ◌≤◌, true, length};
 
-use std::num::wrapping_add_usize;
+use std::fmt;
+use std::fmt::Write;
 
 // What lent numbers and bytes hold before a call, so that what should not change is seen not to.
-pub const MARK: u16 = 43981;
-
-pub const BYTE_MARK: u8 = 171;
-
-pub fn byte(s: &[u8], i: usize) -> u8
-    ensures { length s.now ≤ i → result ≡ 0 }
-{
-    if i < s.len() { s[i] } else { 0 }
+pub trait Marked: Copy + PartialEq {
+    const MARK: Self;
 }
 
-pub fn put_byte(s: &mut [u8], i: usize, v: u8)
+impl Marked for u16 {
+    const MARK: u16 = 43981;
+}
+
+impl Marked for u8 {
+    const MARK: u8 = 171;
+}
+
+pub fn at<T: Copy + Default>(s: &[T], i: usize) -> T
+    ensures { length s.now ≤ i → T.is_default result }
+{
+    s.get(i).copied().unwrap_or_default()
+}
+
+pub fn put<T: Drop>(s: &mut [T], i: usize, v: T)
     ensures { length s.new ≡ length s.old }
 {
     if i < s.len() {
@@ -23,120 +32,101 @@ pub fn put_byte(s: &mut [u8], i: usize, v: u8)
     }
 }
 
-pub fn number(s: &[u16], i: usize) -> u16
-    ensures { length s.now ≤ i → result ≡ 0 }
-{
-    if i < s.len() { s[i] } else { 0 }
-}
-
-pub fn put_number(s: &mut [u16], i: usize, v: u16)
+// Puts bytes at a place, as far as there is room.
+pub fn put_all(s: &mut [u8], at: usize, bytes: &[u8])
     ensures { length s.new ≡ length s.old }
 {
-    if i < s.len() {
-        s[i] = v;
+    let room = s.get_mut(at..).unwrap_or_default();
+    for (to, from) in room.iter_mut().zip(bytes) {
+        *to = *from;
     }
 }
 
-// The bytes from one place to another; none where there is no such part.
-pub fn part_of(s: &[u8], from: usize, to: usize) -> &[u8]
+// The part from one place to another; empty where there is no such part.
+pub fn part_of<T>(s: &[T], from: usize, to: usize) -> &[T]
     ensures result_in_bounds { length result.now ≤ length s.now }
     ensures result_len_bound { length result.now ≤ to - from }
 {
-    if s.len() < to {
-        return &s[0..0];
-    }
-    if to < from {
-        return &s[0..0];
-    }
-    &s[from..to]
+    s.get(from..to).unwrap_or_default()
 }
 
-// The first n numbers, or all where there are fewer.
-pub fn first_numbers(s: &mut [u16], n: usize) -> &mut [u16]
+// The first n, or all where there are fewer.
+pub fn first<T>(s: &mut [T], n: usize) -> &mut [T]
     ensures { length result.now ≤ n }
 {
-    if s.len() < n {
-        return s;
-    }
-    &mut s[0..n]
+    let n = n.min(s.len());
+    &mut s[..n]
 }
 
-// The first n bytes, or all where there are fewer.
-pub fn first_bytes(s: &mut [u8], n: usize) -> &mut [u8]
-    ensures { length result.now ≤ n }
-{
-    if s.len() < n {
-        return s;
-    }
-    &mut s[0..n]
-}
-
-// Puts bytes at a place, and answers where they end.
-pub fn put_bytes(s: &mut [u8], at: usize, bytes: &[u8]) -> usize
-    ensures { length s.new ≡ length s.old }
-{
-    let mut end = at;
-    for i in 0..bytes.len() {
-        put_byte(s, end, byte(bytes, i));
-        end = wrapping_add_usize(end, 1);
-    }
-    end
-}
-
-// A number of two bytes at i.
-pub(crate) fn put_word(s: &mut [u8], i: usize, v: u16) {
-    put_byte(s, i, (v % 256) as u8);
-    put_byte(s, wrapping_add_usize(i, 1), (v / 256) as u8);
-}
-
-// A number of four bytes at i.
-pub(crate) fn put_double(s: &mut [u8], i: usize, v: u32) {
-    put_word(s, i, (v % 65536) as u16);
-    put_word(s, wrapping_add_usize(i, 2), (v / 65536) as u16);
-}
-
-pub fn fill_bytes(s: &mut [u8], mark: u8)
-    ensures { length s.new ≡ length s.old }
-{
-    for i in 0..s.len() {
-        put_byte(s, i, mark);
-    }
-}
-
-// Both hold the same numbers, and the mark from a place on.
-pub fn same_numbers(a: &[u16], b: &[u16], used: usize) -> bool
+// Both hold the same, and the mark from a place on.
+pub fn same_left<T: Marked>(a: &[T], b: &[T], used: usize) -> bool
     ensures { result ≡ true → length a.now ≡ length b.now }
 {
-    if a.len() != b.len() {
-        return false;
-    }
-    for i in 0..a.len() {
-        if number(a, i) != number(b, i) || (used <= i && number(a, i) != MARK) {
-            return false;
+    a.len() == b.len() && a == b && part_of(a, used, a.len()).iter().all(|x| *x == T::MARK)
+}
+
+// Bytes written one after the other into a room of N.
+#[derive(Drop)]
+pub struct Bytes<const N: usize> {
+    of: [u8; N],
+    pub length: usize,
+}
+
+impl<const N: usize> Bytes<N> {
+    pub fn new() -> Bytes<N>
+        ensures { result.length ≡ 0 }
+    {
+        Bytes {
+            of: [0; N],
+            length: 0,
         }
     }
-    true
+
+    // Where the room ends, the bytes are counted alone.
+    pub fn extend(&mut self, bytes: &[u8])
+        ensures counted { self.new.length ≡ (self.old.length + length bytes.now) % 2 ^ 64 }
+        ensures at_most { self.new.length ≤ self.old.length + length bytes.now }
+    {
+        put_all(&mut self.of, self.length, bytes);
+        self.length = self.length.wrapping_add(bytes.len());
+    }
+
+    pub fn push(&mut self, b: u8)
+        ensures counted { self.new.length ≡ (self.old.length + 1) % 2 ^ 64 }
+        ensures at_most { self.new.length ≤ self.old.length + 1 }
+    {
+        self.extend(&[b]);
+    }
+
+    // What was written; nothing where the room was too small for it.
+    pub fn written(&self) -> &[u8]
+        ensures { length result.now ≤ self.now.length }
+    {
+        part_of(&self.of, 0, self.length)
+    }
+
+    // The whole room, 0 where nothing was written.
+    pub fn all(&self) -> &[u8]
+        ensures { length result.now ≡ N }
+    {
+        &self.of
+    }
+
+    // What was written, as far as there was room, to be changed.
+    pub fn room(&mut self) -> &mut [u8]
+        ensures { length result.now ≤ self.old.length }
+    {
+        let n = self.length;
+        let of = &mut self.of;
+        first(&mut of[..], n)
+    }
 }
 
-// Both hold the same bytes, and the mark from a place on.
-pub fn same_output(a: &[u8], b: &[u8], used: usize) -> bool
-    ensures { result ≡ true → length a.now ≡ length b.now }
-{
-    if a.len() != b.len() {
-        return false;
+impl<const N: usize> Write for Bytes<N> {
+    fn write_str(&mut self, s: &str) -> fmt::Result {
+        self.extend(s.as_bytes());
+        Ok(())
     }
-    for i in 0..a.len() {
-        if byte(a, i) != byte(b, i) || (used <= i && byte(a, i) != BYTE_MARK) {
-            return false;
-        }
-    }
-    true
-}
-
-pub fn same_bytes(a: &[u8], b: &[u8]) -> bool
-    ensures { result ≡ true → length a.now ≡ length b.now }
-{
-    same_output(a, b, a.len())
 }
 
 // The product of two numbers of 16 bits.
@@ -149,5 +139,5 @@ pub fn product(n: u16, t: u16) -> usize
 pub fn at_least_one(n: u16) -> u16
     ensures { 1 ≤ result }
 {
-    if n == 0 { 1 } else { n }
+    n.max(1)
 }

@@ -1,103 +1,109 @@
-// The lines of an input, one after the other: rows are handed out, groups and rows are counted, and what
+// The lines of an input, one after the other: its rows are tried, groups and rows are counted, and what
 // was counted in a group is said at its end.
-ghost use Rattle.std.specs.Prelude.{◌≡◌, ◌+◌, ◌%◌, ◌^◌, ◌≤◌, length};
+ghost use Rattle.std.specs.Prelude.{◌≡◌, ◌+◌, ◌%◌, ◌^◌, ◌≤◌, IfSome, length};
 
-use crate::bytes::{byte, part_of};
-use crate::log::Log;
-use crate::tally;
-use crate::tally::{Tally, say, say_group, say_number};
-use crate::text::{find, word};
-use std::num::{wrapping_add_u32, wrapping_add_usize};
+use crate::tally::{Tally, Trial};
+use crate::text::word;
 
-// How far the rows have been tried: what was counted in the group, its rows and those before it, lines
-// and where the next one starts, and where the group's name stands.
+// How far the rows have been tried: the group's name, its rows and those before it, and lines.
 #[derive(Clone, Copy)]
-pub struct Progress {
-    pub t: Tally,
+pub struct Progress<'a> {
+    name: &'a [u8],
     pub rows: u32,
     pub before: u32,
-    pub lines: u32,
-    pub from: usize,
-    pub name: usize,
-    pub name_end: usize,
+    lines: u32,
 }
 
-pub fn begin() -> Progress
-    ensures { result.from ≡ 0 }
+// The name on a line that names a group.
+fn name_on(line: &[u8]) -> Option<&[u8]>
+    ensures { IfSome result (λ name. length name.now ≤ length line.now) }
 {
-    Progress {
-        t: tally::none(),
-        rows: 0,
-        before: 0,
-        lines: 0,
-        from: 0,
-        name: 0,
-        name_end: 0,
+    if line.first() != Some(&b'=') {
+        return None;
+    }
+    Some(line.get(2..).unwrap_or_default())
+}
+
+// The row on a line that names no group and has more than a comment.
+pub fn row_on(line: &[u8]) -> Option<&[u8]>
+    ensures { IfSome result (λ row. length row.now ≤ length line.now) }
+{
+    let row = line.split(|c| *c == b'#').nth(0).unwrap_or_default();
+    if row.first() == Some(&b'=') || word(row, 0).is_empty() {
+        return None;
+    }
+    Some(row)
+}
+
+impl<'a> Progress<'a> {
+    pub fn new() -> Progress<'a>
+        ensures { result.before + result.rows ≡ 0 }
+    {
+        Progress {
+            name: b"",
+            rows: 0,
+            before: 0,
+            lines: 0,
+        }
+    }
+
+    // What the group's rows counted, said at its end.
+    fn end_group(&mut self, trial: &mut Trial)
+        ensures counted { self.new.before ≡ (self.old.before + self.old.rows) % 2 ^ 32 }
+        ensures said { trial.new.tally.wrong ≡ 0 }
+    {
+        if self.rows != 0 {
+            trial.log.write(self.name);
+            trial
+                .log
+                .print(format_args!(": rows {}, {}", self.rows, trial.tally));
+        }
+        trial.tally = Tally::default();
+        self.before = self.before.wrapping_add(self.rows);
+        self.rows = 0;
+    }
+
+    // Tries the row on a line, if any; one that differs is said.
+    fn try_line<F: Fn(&mut Trial, &[u8])>(&mut self, trial: &mut Trial, line: &'a [u8], try_row: &F)
+        requires { F.IsAlwaysCallable try_row.now }
+    {
+        self.lines = self.lines.wrapping_add(1);
+        if let Some(name) = name_on(line) {
+            self.end_group(trial);
+            self.name = name;
+        }
+        if let Some(row) = row_on(line) {
+            let wrong = trial.tally.wrong;
+            try_row(trial, row);
+            self.rows = self.rows.wrapping_add(1);
+            if wrong < trial.tally.wrong {
+                trial.log.write(row);
+                trial
+                    .log
+                    .print(format_args!(" <- differs, line {}\n", self.lines));
+            }
+        }
+    }
+
+    // Says what the last group counted and how many rows there were, and answers that number.
+    pub fn finish(&mut self, trial: &mut Trial) -> u32
+        ensures counted { result ≡ (self.old.before + self.old.rows) % 2 ^ 32 }
+        ensures said { trial.new.tally.wrong ≡ 0 }
+    {
+        self.end_group(trial);
+        trial.log.print(format_args!("rows {}\n", self.before));
+        self.before
     }
 }
 
-// The row on a line up to its end; empty where the line names a group or has nothing but a comment.
-pub fn row_at(p: Progress, text: &[u8], end: usize) -> &[u8]
-    ensures { length result.now ≤ length text.now }
+// Tries each row of a text, and says what was counted; how many rows there were.
+pub fn try_rows<F: Fn(&mut Trial, &[u8])>(trial: &mut Trial, text: &[u8], try_row: &F) -> u32
+    requires { F.IsAlwaysCallable try_row.now }
+    ensures { trial.new.tally.wrong ≡ 0 }
 {
-    let line = part_of(text, p.from, end);
-    let row = part_of(line, 0, find(line, 0, b'#'));
-    if byte(row, 0) == b'=' || word(row, 0).len() == 0 {
-        return part_of(row, 0, 0);
+    let mut progress = Progress::new();
+    for line in text.split(|c| *c == b'\n') {
+        progress.try_line(trial, line, try_row);
     }
-    row
-}
-
-// What the group's rows counted, said at its end.
-fn end_group(p: Progress, log: &mut Log, text: &[u8]) -> Progress
-    ensures { result.before ≡ (p.before + p.rows) % 2 ^ 32 }
-{
-    if p.rows != 0 {
-        say_group(log, part_of(text, p.name, p.name_end), p.rows, p.t);
-    }
-    let mut next = p;
-    next.t = tally::none();
-    next.rows = 0;
-    next.before = wrapping_add_u32(p.before, p.rows);
-    next
-}
-
-// After a line up to its end, whose row counted this: the group's name, or a row more, which is said
-// where it differs.
-pub fn after_line(
-    p: Progress,
-    log: &mut Log,
-    text: &[u8],
-    end: usize,
-    row: &[u8],
-    t: Tally,
-) -> Progress
-    ensures { result.from ≡ (end + 1) % 2 ^ 64 }
-{
-    let mut next = p;
-    if byte(part_of(text, p.from, end), 0) == b'=' {
-        next = end_group(p, log, text);
-        next.name = wrapping_add_usize(p.from, 2);
-        next.name_end = end;
-    }
-    if row.len() != 0 {
-        next.t = t;
-        next.rows = wrapping_add_u32(p.rows, 1);
-    }
-    next.lines = wrapping_add_u32(p.lines, 1);
-    next.from = wrapping_add_usize(end, 1);
-    if p.t.wrong < next.t.wrong {
-        say(log, row);
-        say_number(log, b" <- differs, line ", next.lines);
-    }
-    next
-}
-
-// Says what the last group counted and how many rows there were, and answers that number.
-pub fn finish(p: Progress, log: &mut Log, text: &[u8]) -> u32
-    ensures { result ≡ (p.before + p.rows) % 2 ^ 32 }
-{
-    let rows = end_group(p, log, text).before;
-    say_number(log, b"rows ", rows);
-    rows
+    progress.finish(trial)
 }

@@ -1,68 +1,80 @@
 // Recordings from a fixed seed: events are drawn and kept where the rules allow them, so that forks,
 // joins, waits that compete for signals, and posts before and after a flag opens occur; then some are
 // damaged.
-ghost use Rattle.std.specs.Prelude.{◌≡◌, ◌%◌, ◌≤◌, length};
+ghost use Rattle.std.specs.Prelude.{◌≡◌, ◌+◌, ◌%◌, ◌<◌, ◌≤◌, length};
 
-use crate::bytes::{number, put_byte, put_number};
-use crate::records::{Draft, Shape, mark_preamble, place, put_record, put_trailer};
-use std::num::{wrapping_add_u16, wrapping_add_usize};
-
-// What has happened, by semaphore, by task or by flag: what a wait can take, of the start count and of
-// signals; forked; joined; has a record; runs only once forked; the start counts; how many posts a flag
-// lacks; and the post counts.
-const STOCK: u16 = 0;
-
-const FORKED: u16 = 64;
-
-const JOINED: u16 = 128;
-
-const SEEN: u16 = 192;
-
-const LATE: u16 = 256;
-
-const STARTS: u16 = 320;
-
-const LACK: u16 = 384;
-
-const POSTS: u16 = 448;
+use crate::bytes::{Bytes, at, first};
+use crate::records::{Kind, Record, Shape, place, put_preamble, put_record, put_trailer};
 
 // ---- drawing
 
-// A number below n; 0 where n is 0.
-pub fn draw(seed: &mut u32, n: u32) -> u32
-    ensures { result ≤ n }
-{
-    let x = (*seed % 2147483648) as u64;
-    let y = (x * 1103515245 + 12345) % 2147483648;
-    *seed = y as u32;
-    if n == 0 {
-        return 0;
+// From where numbers are drawn, one after the other.
+#[derive(Clone, Copy)]
+pub struct Seed(pub u32);
+
+impl Seed {
+    // A number below n; 0 where n is 0.
+    pub fn draw(&mut self, n: u32) -> u32
+        ensures at_most { result ≤ n }
+        ensures below { 0 < n → result < n }
+    {
+        let x = u64::from(self.0 % 2147483648);
+        let y = (x * 1103515245 + 12345) % 2147483648;
+        self.0 = y as u32;
+        if n == 0 {
+            return 0;
+        }
+        (y / 65536) as u32 % n
     }
-    (y / 65536) as u32 % n
-}
 
-pub fn draw_word(seed: &mut u32, n: u16) -> u16
-    ensures { result ≤ n }
-{
-    draw(seed, n as u32) as u16
-}
+    pub fn draw_word(&mut self, n: u16) -> u16
+        ensures at_most { result ≤ n }
+        ensures below { 0 < n → result < n }
+    {
+        self.draw(n as u32) as u16
+    }
 
-// A number from low to low + n.
-pub fn draw_from(seed: &mut u32, low: u16, n: u16) -> u16
-    ensures { low % 32768 ≤ result }
-{
-    let more = draw_word(seed, n) % 32768;
-    low % 32768 + more
+    // A number from low to low + n.
+    pub fn draw_from(&mut self, low: u16, n: u16) -> u16
+        ensures { low % 32768 ≤ result }
+    {
+        let more = self.draw_word(n) % 32768;
+        low % 32768 + more
+    }
 }
 
 // ---- events
 
-fn at(life: &[u16], what: u16, i: u16) -> u16 {
-    number(life, what as usize + i as usize)
+// A task: whether it runs only once it is forked, is forked, is joined, and has a record.
+#[derive(Clone, Copy, Default)]
+struct Task {
+    late: bool,
+    forked: bool,
+    joined: bool,
+    seen: bool,
 }
 
-fn put(life: &mut [u16], what: u16, i: u16, v: u16) {
-    put_number(life, what as usize + i as usize, v);
+// A semaphore's start count and what a wait can take; or a flag's post count and how many posts it lacks.
+#[derive(Clone, Copy, Default)]
+struct Level {
+    first: u8,
+    left: u16,
+}
+
+// How many events there are, and what has happened in them.
+#[derive(Clone, Copy)]
+struct Life {
+    events: u16,
+    tasks: [Task; 64],
+    semaphores: [Level; 64],
+    flags: [Level; 64],
+}
+
+#[derive(Clone, Copy)]
+struct Event {
+    task: u16,
+    kind: Kind,
+    object: u16,
 }
 
 // The kinds of an edition.
@@ -72,81 +84,96 @@ pub fn kinds_in(edition: u16) -> u16
     if edition == 3 { 10 } else { 6 }
 }
 
-fn names(kind: u16, s: Shape) -> u16 {
+// How many objects there are for a kind.
+fn objects_for(kind: Kind, s: Shape) -> u16 {
     match kind {
-        1 | 2 => s.semaphores,
-        3 | 4 => s.tasks,
-        5 | 6 | 9 | 10 => s.cells,
-        _ => s.flags,
+        Kind::Signal | Kind::Wait => s.semaphores,
+        Kind::Fork | Kind::Join => s.tasks,
+        Kind::Read | Kind::Write | Kind::SingleRead | Kind::SingleWrite => s.cells,
+        Kind::Post | Kind::FlagWait => s.flags,
     }
 }
 
-fn allowed(life: &[u16], d: Draft) -> bool {
-    let kind = d.kind;
-    let task = d.task;
-    let object = d.object;
-    let forked = at(life, FORKED, object);
-    let late = (at(life, LATE, task) != 0) & (at(life, FORKED, task) == 0);
-    if late | (at(life, JOINED, task) != 0) {
-        return false;
-    }
-    match kind {
-        2 => at(life, STOCK, object) != 0,
-        3 => (object != task) & (forked == 0) & (at(life, SEEN, object) == 0),
-        4 => (object != task) & (forked != 0) & (at(life, JOINED, object) == 0),
-        8 => at(life, LACK, object) == 0,
-        _ => true,
+fn draw_kind(seed: &mut Seed, edition: u16) -> Kind {
+    let n = seed.draw_from(1, kinds_in(edition)) % 256;
+    Kind::numbered(n as u8).unwrap_or(Kind::Signal)
+}
+
+impl Event {
+    fn record(self) -> Record {
+        Record {
+            task: (self.task % 256) as u8,
+            kind: self.kind as u8,
+            object: self.object,
+        }
     }
 }
 
-fn one_less(x: u16) -> u16 {
-    if 0 < x { x - 1 } else { x }
-}
+impl Life {
+    // Draws an event, which happens where it is allowed.
+    fn grow(&mut self, seed: &mut Seed, s: Shape) -> Option<Event> {
+        let task = seed.draw_word(s.tasks);
+        let kind = draw_kind(seed, s.edition);
+        let objects = objects_for(kind, s);
+        let object = seed.draw_word(objects);
+        let event = Event { task, kind, object };
+        if s.events <= self.events || objects == 0 || !self.allows(event) {
+            return None;
+        }
+        self.note(event);
+        Some(event)
+    }
 
-fn note(life: &mut [u16], d: Draft) {
-    put(life, SEEN, d.task, 1);
-    let stock = at(life, STOCK, d.object);
-    let lack = at(life, LACK, d.object);
-    let kind = d.kind;
-    match kind {
-        1 => put(life, STOCK, d.object, wrapping_add_u16(stock, 1)),
-        2 => put(life, STOCK, d.object, one_less(stock)),
-        3 => put(life, FORKED, d.object, 1),
-        4 => put(life, JOINED, d.object, 1),
-        7 => put(life, LACK, d.object, one_less(lack)),
-        _ => put(life, SEEN, d.task, 1),
+    fn allows(&self, e: Event) -> bool {
+        let task = at(&self.tasks, e.task as usize);
+        let object = e.object as usize;
+        let other = at(&self.tasks, object);
+        if task.joined || (task.late && !task.forked) {
+            return false;
+        }
+        match e.kind {
+            Kind::Wait => at(&self.semaphores, object).left != 0,
+            Kind::Fork => e.object != e.task && !other.forked && !other.seen,
+            Kind::Join => e.object != e.task && other.forked && !other.joined,
+            Kind::FlagWait => at(&self.flags, object).left == 0,
+            _ => true,
+        }
+    }
+
+    fn note(&mut self, e: Event) {
+        let object = e.object as usize;
+        self.events = self.events.wrapping_add(1);
+        change(&mut self.tasks, e.task as usize, |t| t.seen = true);
+        match e.kind {
+            Kind::Signal => change(
+                &mut self.semaphores,
+                object,
+                |s| s.left = s.left.wrapping_add(1),
+            ),
+            Kind::Wait => change(
+                &mut self.semaphores,
+                object,
+                |s| s.left = s.left.saturating_sub(1),
+            ),
+            Kind::Fork => change(&mut self.tasks, object, |t| t.forked = true),
+            Kind::Join => change(&mut self.tasks, object, |t| t.joined = true),
+            Kind::Post => change(
+                &mut self.flags,
+                object,
+                |f| f.left = f.left.saturating_sub(1),
+            ),
+            _ => {}
+        }
     }
 }
 
-// Draws an event, puts it behind the n that are there where it is allowed, and answers how many
-// there are then.
-fn grow(seed: &mut u32, s: Shape, life: &mut [u16], file: &mut [u8], n: u16) -> u16 {
-    let task = draw_word(seed, s.tasks);
-    let kind = draw_from(seed, 1, kinds_in(s.edition));
-    let object = draw_word(seed, names(kind, s));
-    let d = Draft { task, kind, object };
-    if s.events <= n || names(kind, s) == 0 || !allowed(life, d) {
-        return n;
+// Changes what stands at a place, if anything does.
+fn change<T, F: FnOnce(&mut T) + Drop>(s: &mut [T], i: usize, f: F)
+    requires { F.IsAlwaysCallable f }
+{
+    if let Some(x) = s.get_mut(i) {
+        f(x);
     }
-    note(life, d);
-    put_record(file, place(s.preamble, n), d);
-    wrapping_add_u16(n, 1)
-}
-
-// Two of five tasks but the first wait for a fork.
-fn set_late(seed: &mut u32, life: &mut [u16], tasks: u16) {
-    for t in 1..tasks {
-        let chance = draw(seed, 5);
-        put(life, LATE, t, if chance < 2 { 1 } else { 0 });
-    }
-}
-
-fn grow_all(seed: &mut u32, s: Shape, life: &mut [u16], file: &mut [u8]) -> u16 {
-    let mut n = 0;
-    for i in 0..s.events as u32 * 3 {
-        n = grow(seed, s, life, file, n);
-    }
-    n
 }
 
 // ---- levels
@@ -157,107 +184,132 @@ fn starts_in(s: Shape) -> u16 {
 }
 
 // 0, 1, 4, 255, or a small number.
-fn draw_start(seed: &mut u32) -> u16 {
-    match draw(seed, 7) {
+fn draw_start(seed: &mut Seed) -> u8 {
+    match seed.draw(7) {
         0 => 0,
         1 => 1,
         2 => 4,
         3 => 255,
-        _ => draw_word(seed, 7),
+        _ => seed.draw(7) as u8,
     }
 }
 
 // Mostly 1 or 2, so that flags open; 255, or up to 4.
-fn draw_post(seed: &mut u32) -> u16 {
-    match draw(seed, 8) {
+fn draw_post(seed: &mut Seed) -> u8 {
+    match seed.draw(8) {
         0 => 255,
-        1 => draw_from(seed, 1, 4),
+        1 => seed.draw(4) as u8 + 1,
         2 | 3 | 4 => 2,
         _ => 1,
     }
 }
 
-// Draws n start counts or post counts, and what is there of them before the first event.
-fn set_levels(seed: &mut u32, life: &mut [u16], what: u16, first: u16, n: u16) {
-    for i in 0..n {
-        let level = if what == STARTS {
-            draw_start(seed)
-        } else {
-            draw_post(seed)
+// Draws start counts or post counts, which are what is there of them before the first event.
+fn draw_levels<F: FnMut(&mut Seed) -> u8>(levels: &mut [Level], seed: &mut Seed, mut draw: F)
+    requires { F.IsAlwaysCallable draw }
+{
+    for level in levels.iter_mut() {
+        let first = draw(seed);
+        *level = Level {
+            first,
+            left: u16::from(first),
         };
-        put(life, what, i, level);
-        put(life, first, i, level);
     }
 }
 
-// Puts n start counts or post counts at a place of the file, and answers where they end.
-fn put_levels(file: &mut [u8], from: usize, life: &[u16], what: u16, n: u16) -> usize {
-    for i in 0..n {
-        put_byte(
-            file,
-            wrapping_add_usize(from, i as usize),
-            (at(life, what, i) % 256) as u8,
-        );
+fn put_levels<const N: usize>(file: &mut Bytes<N>, levels: &[Level])
+    ensures { file.new.length ≤ file.old.length + length levels.now }
+{
+    for level in levels {
+        file.push(level.first);
     }
-    wrapping_add_usize(from, n as usize)
 }
 
 // ---- files
 
-// A recording that reading accepts, of at most the shape's events; its length.
-pub fn make(seed: &mut u32, s: Shape, file: &mut [u8]) -> usize
-    ensures { length file.new ≡ length file.old }
+// What is there before the first event; two of five tasks but the first wait for a fork.
+fn draw_life(seed: &mut Seed, s: Shape) -> Life {
+    let mut life = Life {
+        events: 0,
+        tasks: [Task::default(); 64],
+        semaphores: [Level::default(); 64],
+        flags: [Level::default(); 64],
+    };
+    for task in first(&mut life.tasks, s.tasks as usize).iter_mut().skip(1) {
+        task.late = seed.draw(5) < 2;
+    }
+    draw_levels(
+        first(&mut life.semaphores, starts_in(s) as usize),
+        seed,
+        draw_start,
+    );
+    draw_levels(first(&mut life.flags, s.flags as usize), seed, draw_post);
+    life
+}
+
+// A recording that reading accepts, of at most the shape's events.
+pub fn make<const N: usize>(seed: &mut Seed, s: Shape) -> Bytes<N>
+    ensures { 16 ≤ result.length }
 {
-    let mut life = [0u16; 512];
-    let starts = starts_in(s);
-    set_late(seed, &mut life, s.tasks);
-    set_levels(seed, &mut life, STARTS, STOCK, starts);
-    set_levels(seed, &mut life, POSTS, LACK, s.flags);
-    mark_preamble(file, s.preamble as usize);
-    let n = grow_all(seed, s, &mut life, file);
-    let posts = put_levels(file, place(s.preamble, n), &life, STARTS, starts);
-    let end = put_levels(file, posts, &life, POSTS, s.flags);
-    put_trailer(file, end, s.preamble as u32, n as u32, s)
+    let mut life = draw_life(seed, s);
+    let mut file = Bytes::new();
+    put_preamble(&mut file, s.preamble);
+    for i in 0..s.events as u32 * 3 {
+        if let Some(event) = life.grow(seed, s) {
+            file.extend(&event.record().bytes());
+        }
+    }
+    put_levels(
+        &mut file,
+        first(&mut life.semaphores, starts_in(s) as usize),
+    );
+    put_levels(&mut file, first(&mut life.flags, s.flags as usize));
+    put_trailer(&mut file, s.preamble as u32, life.events as u32, s);
+    file
 }
 
 // ---- damage
 
 // Another byte so many from the end of the file, where there is one.
-pub fn damage_byte(file: &mut [u8], size: usize, back: u32, value: u8)
+pub fn damage_byte(file: &mut [u8], back: u32, value: u8)
     ensures { length file.new ≡ length file.old }
 {
-    if (back as usize) < size {
-        put_byte(file, size - 1 - back as usize, value);
+    if let Some(b) = file.iter_mut().rev().nth(back as usize) {
+        *b = value;
     }
 }
 
-// Where that is asked, another byte somewhere in the file, in its trailer or just before that, another
-// record, or another length; the length.
-pub fn damage(seed: &mut u32, s: Shape, file: &mut [u8], all: usize, damaged: bool) -> usize
-    ensures { length file.new ≡ length file.old }
+// Another byte somewhere in the file, in its trailer or just before that, another record, or another length.
+pub fn damage<const N: usize>(seed: &mut Seed, s: Shape, file: &mut Bytes<N>)
+    ensures { file.new.length ≤ file.old.length + 8 }
 {
-    if !damaged {
-        return all;
-    }
+    let all = file.length;
+    file.length = damage_some(seed, s, file.room(), all);
+}
+
+// The same of the bytes of a file of this length; its length then.
+fn damage_some(seed: &mut Seed, s: Shape, file: &mut [u8], all: usize) -> usize
+    ensures { result ≤ all + 8 }
+{
     let size = (all % 65536) as u32;
-    let what = draw(seed, 5);
-    let value = (draw(seed, 256) % 256) as u8;
+    let what = seed.draw(5);
+    let value = seed.draw(256) as u8;
     match what {
-        0 => damage_byte(file, all, draw(seed, size), value),
-        1 => damage_byte(file, all, draw(seed, 16), value),
-        2 => damage_byte(file, all, draw(seed, 8) % 8 + 16, value % 6),
+        0 => damage_byte(file, seed.draw(size), value),
+        1 => damage_byte(file, seed.draw(16), value),
+        2 => damage_byte(file, seed.draw(8) + 16, value % 6),
         3 => damage_record(seed, s, file),
-        _ => return draw(seed, size + 8) as usize,
+        _ => return seed.draw(size + 8) as usize,
     }
     all
 }
 
 // Another record, of a kind that may be none.
-fn damage_record(seed: &mut u32, s: Shape, file: &mut [u8]) {
-    let d = Draft {
-        task: draw_word(seed, s.tasks),
-        kind: draw_word(seed, kinds_in(s.edition) % 16 + 3),
-        object: draw_word(seed, 6),
+fn damage_record(seed: &mut Seed, s: Shape, file: &mut [u8]) {
+    let record = Record {
+        task: (seed.draw_word(s.tasks) % 256) as u8,
+        kind: seed.draw(kinds_in(s.edition) as u32 + 3) as u8,
+        object: seed.draw_word(6),
     };
-    put_record(file, place(s.preamble, draw_word(seed, s.events)), d);
+    put_record(file, place(s.preamble, seed.draw_word(s.events)), record);
 }

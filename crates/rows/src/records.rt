@@ -1,12 +1,10 @@
 // The form of a file: records and their names, the preamble and the trailer.
-ghost use Rattle.std.specs.Prelude.{◌≡◌, ◌+◌, ◌*◌, ◌%◌, ◌^◌, ◌≤◌, length};
+ghost use Rattle.std.specs.Prelude.{◌≡◌, ◌+◌, ◌*◌, ◌%◌, ◌^◌, ◌≤◌, IfSome, length};
 
-use crate::bytes::{
-    byte, fill_bytes, first_bytes, number, part_of, put_byte, put_double, put_number, put_word,
-};
-use std::num::wrapping_add_usize;
+use crate::bytes::{Bytes, at, part_of, put_all};
 
-// How large a recording may be: its preamble and events, and its counts; and its edition.
+// How large a recording may be: its preamble and events, and its counts; and its edition, a number, as rows ask
+// for editions that there are not.
 #[derive(Clone, Copy)]
 pub struct Shape {
     pub preamble: u16,
@@ -18,28 +16,74 @@ pub struct Shape {
     pub edition: u16,
 }
 
+// ---- records
+
+// The kinds of an event.
+#[derive(Clone, Copy, PartialEq)]
+pub enum Kind {
+    Signal = 1,
+    Wait = 2,
+    Fork = 3,
+    Join = 4,
+    Read = 5,
+    Write = 6,
+    Post = 7,
+    FlagWait = 8,
+    SingleRead = 9,
+    SingleWrite = 10,
+}
+
+// A record as it is written: its kind is a number, as it may be none of the kinds.
 #[derive(Clone, Copy)]
-pub struct Draft {
-    pub task: u16,
-    pub kind: u16,
+pub struct Record {
+    pub task: u8,
+    pub kind: u8,
     pub object: u16,
 }
 
-// ---- records
+impl Record {
+    pub fn bytes(self) -> [u8; 4]
+        ensures { length result ≡ 4 }
+    {
+        let [low, high] = self.object.to_le_bytes();
+        [self.task, self.kind, low, high]
+    }
+}
+
+impl Kind {
+    // The kind of this number, where there is one.
+    pub fn numbered(n: u8) -> Option<Kind>
+        ensures { IfSome result (λ kind. n ≤ 10) }
+    {
+        let kind = match n {
+            1 => Kind::Signal,
+            2 => Kind::Wait,
+            3 => Kind::Fork,
+            4 => Kind::Join,
+            5 => Kind::Read,
+            6 => Kind::Write,
+            7 => Kind::Post,
+            8 => Kind::FlagWait,
+            9 => Kind::SingleRead,
+            10 => Kind::SingleWrite,
+            _ => return None,
+        };
+        Some(kind)
+    }
+}
 
 // The place of record n after a preamble.
 pub fn place(preamble: u16, n: u16) -> usize
-    ensures { result ≤ 327675 }
+    ensures exact { result ≡ preamble + 4 * n }
+    ensures bound { result ≤ 327675 }
 {
     preamble as usize + n as usize * 4
 }
 
-pub fn put_record(file: &mut [u8], i: usize, d: Draft)
+pub fn put_record(file: &mut [u8], i: usize, r: Record)
     ensures { length file.new ≡ length file.old }
 {
-    put_byte(file, i, (d.task % 256) as u8);
-    put_byte(file, wrapping_add_usize(i, 1), (d.kind % 256) as u8);
-    put_word(file, wrapping_add_usize(i, 2), d.object);
+    put_all(file, i, &r.bytes());
 }
 
 // Record e; empty where there is none.
@@ -54,31 +98,41 @@ pub fn record_at(records: &[u8], e: u16) -> &[u8]
 pub fn object_of(records: &[u8], e: u16) -> u16
     ensures { length records.now ≤ 4 * e → result ≡ 0 }
 {
-    let i = e as usize * 4;
-    byte(records, i + 2) as u16 + byte(records, i + 3) as u16 * 256
+    let i = place(0, e);
+    u16::from_le_bytes([at(records, i + 2), at(records, i + 3)])
 }
 
-// The names of 1,024 events, task and position in one number each.
-pub fn name_events(records: &[u8], names: &mut [u16])
+// What names an event: its task, and which of that task's events it is, from 1 on.
+#[derive(Clone, Copy, Default, PartialEq, Eq, PartialOrd, Ord)]
+pub struct Name {
+    pub task: u16,
+    pub position: u16,
+}
+
+// The names of as many events as are asked for.
+pub fn name_events(records: &[u8], names: &mut [Name])
     ensures { length names.new ≡ length names.old }
 {
     let mut counts = [0u16; 256];
-    for e in 0..1024u16 {
-        let task = byte(records, place(0, e));
-        let position = number(&counts, task as usize) % 1024 + 1;
-        put_number(&mut counts, task as usize, position);
-        put_number(names, e as usize, task as u16 % 16 * 2048 + position);
+    for (e, name) in names.iter_mut().enumerate() {
+        let task = at(records, e.wrapping_mul(4));
+        let position = counts[task as usize] % 1024 + 1;
+        counts[task as usize] = position;
+        *name = Name {
+            task: (task % 16) as u16,
+            position,
+        };
     }
 }
 
 // ---- preamble and trailer
 
-// Marks the bytes before the first record, so that they differ from a record's.
-pub fn mark_preamble(file: &mut [u8], start: usize)
-    ensures { length file.new ≡ length file.old }
+// So many bytes before the first record, which differ from a record's.
+pub fn put_preamble<const N: usize>(file: &mut Bytes<N>, start: u16)
+    ensures { file.new.length ≤ file.old.length + start }
 {
-    if start <= file.len() {
-        fill_bytes(first_bytes(file, start), 90);
+    for i in 0..start {
+        file.push(90);
     }
 }
 
@@ -92,15 +146,13 @@ pub fn field_of(s: Shape) -> u16
     s.flags % 256 * 256 + s.semaphores % 256
 }
 
-// The trailer at a place of the file, and where it ends.
-pub fn put_trailer(file: &mut [u8], i: usize, start: u32, n: u32, s: Shape) -> usize
-    ensures { result ≡ (i + 16) % 2 ^ 64 }
+// The trailer behind what is written.
+pub fn put_trailer<const N: usize>(file: &mut Bytes<N>, start: u32, n: u32, s: Shape)
+    ensures { file.new.length ≡ (file.old.length + 16) % 2 ^ 64 }
 {
-    put_double(file, i, start);
-    put_double(file, wrapping_add_usize(i, 4), n);
-    put_word(file, wrapping_add_usize(i, 8), s.tasks);
-    put_word(file, wrapping_add_usize(i, 10), field_of(s));
-    put_word(file, wrapping_add_usize(i, 12), s.cells);
-    put_word(file, wrapping_add_usize(i, 14), s.edition);
-    wrapping_add_usize(i, 16)
+    file.extend(&start.to_le_bytes());
+    file.extend(&n.to_le_bytes());
+    for count in [s.tasks, field_of(s), s.cells, s.edition] {
+        file.extend(&count.to_le_bytes());
+    }
 }

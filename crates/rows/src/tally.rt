@@ -1,15 +1,13 @@
 // Comparisons counted, and what is printed of them.
-ghost use Rattle.std.specs.Prelude.{◌≤◌};
+ghost use Rattle.std.specs.Prelude.{◌≡◌, ◌≤◌};
 
-use crate::bytes::byte;
 use crate::log::Log;
-use std::num::wrapping_add_u32;
+use std::fmt::{Display, Formatter, Write};
+use std::io::Stdout;
+use std::{fmt, io};
 
-// How many comparisons were made and how many failed; and what they met: recordings written that show a
-// pair reversed, pairs refused by 15, pairs that one of two recordings alone makes sure, recordings that
-// differ at a position, and of two stretches that one is before the other, that neither is, and refusals
-// by 17.
-#[derive(Clone, Copy)]
+// How many comparisons were made and how many failed; and what they met.
+#[derive(Clone, Copy, Default)]
 pub struct Tally {
     pub total: u32,
     pub wrong: u32,
@@ -22,87 +20,116 @@ pub struct Tally {
     pub unfit: u32,
 }
 
-pub(crate) fn none() -> Tally {
-    Tally {
-        total: 0,
-        wrong: 0,
-        written: 0,
-        unsure: 0,
-        one_sided: 0,
-        differing: 0,
-        leading: 0,
-        neither: 0,
-        unfit: 0,
+// What a comparison met: a recording written that shows a pair reversed, a pair refused by 15, a pair that one
+// of two recordings alone makes sure, recordings that differ at a position, and of two stretches that one is
+// before the other, that neither is, and a refusal by 17.
+#[derive(Clone, Copy)]
+pub enum Met {
+    Written,
+    Unsure,
+    OneSided,
+    Differing,
+    Leading,
+    Neither,
+    Unfit,
+}
+
+// A line for a number that is not 0.
+fn line<W: Write>(f: &mut Formatter<W>, met: &str, n: u32) -> fmt::Result {
+    if n == 0 {
+        return Ok(());
+    }
+    writeln!(f, "  {met} {n}")
+}
+
+impl Display for Tally {
+    fn fmt<W: Write>(&self, f: &mut Formatter<W>) -> fmt::Result {
+        let total = self.total;
+        writeln!(f, "comparisons {total}")?;
+        line(f, "recordings written", self.written)?;
+        line(f, "refused by 15", self.unsure)?;
+        line(f, "pairs sure in one alone", self.one_sided)?;
+        line(f, "that differ at a position", self.differing)?;
+        line(f, "one before the other", self.leading)?;
+        line(f, "neither before the other", self.neither)?;
+        line(f, "refused by 17", self.unfit)?;
+        line(f, "DIFFERENCES", self.wrong)
     }
 }
 
-pub(crate) fn say(log: &mut Log, text: &[u8]) {
-    log.write(text);
-}
+// Bytes in hex.
+#[derive(Clone, Copy)]
+struct Hex<'a>(&'a [u8]);
 
-// A text, a number and the line's end.
-pub(crate) fn say_number(log: &mut Log, text: &[u8], n: u32) {
-    say(log, text);
-    log.print(n);
-    say(log, b"\n");
-}
-
-// The same of a number that is not 0.
-fn say_met(log: &mut Log, text: &[u8], n: u32) {
-    if n != 0 {
-        say_number(log, text, n);
+impl Display for Hex<'_> {
+    fn fmt<W: Write>(&self, f: &mut Formatter<W>) -> fmt::Result {
+        for b in self.0 {
+            write!(f, "{b:02x}")?;
+        }
+        Ok(())
     }
 }
 
-// A group's name, how many rows it has, and what was counted.
-pub(crate) fn say_group(log: &mut Log, name: &[u8], rows: u32, t: Tally) {
-    say(log, name);
-    say(log, b": rows ");
-    log.print(rows);
-    say_number(log, b", comparisons ", t.total);
-    say_met(log, b"  recordings written ", t.written);
-    say_met(log, b"  refused by 15 ", t.unsure);
-    say_met(log, b"  pairs sure in one alone ", t.one_sided);
-    say_met(log, b"  that differ at a position ", t.differing);
-    say_met(log, b"  one before the other ", t.leading);
-    say_met(log, b"  neither before the other ", t.neither);
-    say_met(log, b"  refused by 17 ", t.unfit);
-    say_met(log, b"  DIFFERENCES ", t.wrong);
+fn add(count: &mut u32, n: u32) {
+    *count = count.wrapping_add(n);
 }
 
-// A file in hex, on a line.
-fn say_file(log: &mut Log, s: &[u8]) {
-    say(log, b"differs ");
-    for i in 0..s.len() {
-        log.print(format_args!("{:02x}", byte(s, i)));
+// What is counted, and where the differences are printed.
+#[derive(Drop)]
+pub struct Trial {
+    pub tally: Tally,
+    pub log: Log,
+}
+
+impl Trial {
+    pub fn new(to: Stdout) -> Trial
+        ensures { result.tally.wrong ≡ 0 }
+    {
+        Trial {
+            tally: Tally::default(),
+            log: Log::new(to),
+        }
     }
-    say(log, b"\n");
-}
 
-// One more, up to the largest, so that a difference once counted stays counted.
-fn one_more(n: u32) -> u32
-    ensures { n ≤ result }
-{
-    if n < 4294967295 { n + 1 } else { n }
-}
-
-// Counts a comparison of two files, and shows both where it failed.
-pub fn count_both(t: Tally, log: &mut Log, agrees: bool, one: &[u8], two: &[u8]) -> Tally
-    ensures { t.wrong ≤ result.wrong }
-{
-    let mut u = t;
-    u.total = wrapping_add_u32(t.total, 1);
-    if !agrees {
-        u.wrong = one_more(t.wrong);
-        say_file(log, one);
-        say_file(log, two);
+    // Counts a comparison of two files, and shows both where it failed. A difference once counted stays counted.
+    pub fn count_both(&mut self, agrees: bool, one: &[u8], two: &[u8])
+        ensures { self.old.tally.wrong ≤ self.new.tally.wrong }
+    {
+        self.tally.total = self.tally.total.wrapping_add(1);
+        if !agrees {
+            self.tally.wrong = self.tally.wrong.saturating_add(1);
+            self.log.print(format_args!("differs {}\n", Hex(one)));
+            self.log.print(format_args!("differs {}\n", Hex(two)));
+        }
     }
-    u
-}
 
-// Counts a comparison of one file.
-pub fn count(t: Tally, log: &mut Log, agrees: bool, file: &[u8]) -> Tally
-    ensures { t.wrong ≤ result.wrong }
-{
-    count_both(t, log, agrees, file, b"")
+    // Counts a comparison of one file.
+    pub fn count(&mut self, agrees: bool, file: &[u8])
+        ensures { self.old.tally.wrong ≤ self.new.tally.wrong }
+    {
+        self.count_both(agrees, file, b"");
+    }
+
+    // So many more of what was met.
+    pub fn meet(&mut self, what: Met, n: u32)
+        ensures { self.old.tally.wrong ≡ self.new.tally.wrong }
+    {
+        let t = &mut self.tally;
+        match what {
+            Met::Written => add(&mut t.written, n),
+            Met::Unsure => add(&mut t.unsure, n),
+            Met::OneSided => add(&mut t.one_sided, n),
+            Met::Differing => add(&mut t.differing, n),
+            Met::Leading => add(&mut t.leading, n),
+            Met::Neither => add(&mut t.neither, n),
+            Met::Unfit => add(&mut t.unfit, n),
+        }
+    }
+
+    pub fn end(self) -> io::Result<()>
+        ensures { result ≡ self.log.written }
+    {
+        let Trial { tally: _, log } = self;
+        log.end()
+    }
 }

@@ -1,23 +1,24 @@
 -- Laws of the record check that the proofs cite: what a test says, how the first fault goes on by one record, and the look at post counts. Assumes nothing.
 use mathlib.Core.Path.{◌≡◌, refl, sym, ◌∙◌}
-use mathlib.Core.Bool.{Bool, true, false}
+use Rattle.std.specs.Prelude.{Ok, Err}
+use mathlib.Core.Bool.{Bool, true, false, not}
+use Rattle.std.specs.List.{list_any}
 use mathlib.Core.List.{List, [], ◌∷◌, ◌++◌}
-use Prim.Native.Nat.{ℕ, suc, ◌+◌, ◌-◌, ◌*◌, ◌≤◌, ◌<◌}
+use Prim.Native.Nat.{ℕ, suc, ◌+◌, ◌*◌, ◌≤◌, ◌<◌}
 use native.Mathlib.Nat.{zero-add}
 use native.Mathlib.Numerals.{add-one}
 use native.Mathlib.Omega.{arith}
-use lib.Dec.{ltb, eqb}
-use lib.ListN.{length, get_or, take, drop, drop_of_length-le}
-use lib.Seq.{length-take-le, take-suc, drop-cons}
+use lib.Dec.{eqb}
+use lib.ListN.{length, take}
+use lib.Seq.{length-take-le, take-suc}
 use Rattle.model.specs.declared.Event.{Event}
 use Rattle.model.specs.declared.Refusal.{Refusal}
-use Rattle.model.specs.declared.Check.{Check}
+use Rattle.model.specs.Refusals.{Check, and_then}
 use Rattle.model.specs.Numbers.{count}
-use Rattle.model.specs.Refusals.{and_then}
 use Rattle.model.specs.Recording.{Recording, no_event, event, record_check, first_fault, event_in}
 use Rattle.model.specs.File.{events_of}
 use Rattle.model.specs.Reading.{posts_up}
-use Rattle.model.proofs.Tests.{cases, tests, lt-ltb, ne_eqb}
+use Rattle.model.proofs.Tests.{cases, tests}
 use Rattle.model.proofs.Checks.{none_yet, the_first}
 use Rattle.model.proofs.Files.{events_length}
 
@@ -37,7 +38,7 @@ pub before_next : (s : List ℕ) (n : ℕ) (v : Event) → 4 * n + 3 < length s 
 before_next s n v h q = let l = events_length s in rw (add-one n, q) (take-suc (events_of s) n no_event (omega arith))
 
 -- the check r of record i, where none before it is faulty
-module _ (E : Recording) (i : ℕ) (v : Event) (r : Check) (p : Check.Passed ≡ first_fault E i) (q : v ≡ event E i) (s : r ≡ record_check E.counts E.levels (take i E.events) v) where
+module _ (E : Recording) (i : ℕ) (v : Event) (r : Check) (p : (Ok tt) ≡ first_fault E i) (q : v ≡ event E i) (s : r ≡ record_check E.counts E.levels (take i E.events) v) where
   abbrev step : ℕ → Check
   step n = record_check E.counts E.levels (take n E.events) (event E n)
 
@@ -48,31 +49,17 @@ module _ (E : Recording) (i : ℕ) (v : Event) (r : Check) (p : Check.Passed ≡
   here : r ≡ step i
   here = rw (← q) s
 
-  pub fault_none : r ≡ Check.Passed → Check.Passed ≡ first_fault E (i + 1)
+  pub fault_none : r ≡ Ok tt → Ok tt ≡ first_fault E (i + 1)
   fault_none = none_yet (first_fault E) step up i r p here
 
-  pub fault_first : (x : Refusal) → r ≡ Check.Failed x → (n : ℕ) → i < n → Check.Failed x ≡ first_fault E n
+  pub fault_first : (x : Refusal) → r ≡ Err x → (n : ℕ) → i < n → Err x ≡ first_fault E n
   fault_first = the_first (first_fault E) step up i r p here
 
--- ---- the rule on waits, for w earlier waits, s earlier signals and a start count of n
-
-pub by_signals : (w s n : ℕ) → w < s → true ≡ ltb w (n + s)
-by_signals w s n l = sym (lt-ltb w (n + s) (omega arith))
-
-pub by_start : (w s n : ℕ) → s ≤ w → ltb (w - s) n ≡ ltb w (n + s)
-by_start w s n l = cases (ltb (w - s) n) (λ t. rw t (sym (omega tests))) (λ t. rw t (sym (omega tests)))
-
--- ---- post counts from place i on
-
-module _ (p : List ℕ) (i : ℕ) where
-  pub up_behind : i < length p → ¬ (get_or p i 0 ≡ 0) → posts_up (drop i p) ≡ posts_up (drop (i + 1) p)
-  unfolding posts_up count
-  up_behind l n = let t : eqb 0 (get_or p i 0) ≡ false = ne_eqb 0 (get_or p i 0) (λ q. n (sym q)) in rw (drop-cons p i 0 l, t, add-one i, zero-add)
-
-  pub not_up : i < length p → get_or p i 0 ≡ 0 → posts_up (drop i p) ≡ false
-  unfolding posts_up count
-  not_up l z = rw (drop-cons p i 0 l, z) (omega tests)
-
-  pub none_left : length p ≤ i → posts_up (drop i p) ≡ true
-  unfolding posts_up count
-  none_left h = rw (drop_of_length-le p h)
+-- no post count is 0
+pub none_zero : (p : List ℕ) → not (list_any (λ x. eqb x 0) p) ≡ posts_up p
+unfolding posts_up count
+none_zero [] = refl
+none_zero (x ∷ p) =
+    cases (eqb x 0)
+    (λ t. let z : eqb 0 x ≡ true = omega tests in rw (t, z) (sym (omega tests)))
+    (λ t. let z : eqb 0 x ≡ false = omega tests in rw (t, z, zero-add, none_zero p) refl)

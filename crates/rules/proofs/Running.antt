@@ -1,5 +1,6 @@
 -- Laws of the running counts: how they start and go on by one event, what they are at most, and when an event has a place in them. Assumes nothing.
 use mathlib.Core.Path.{◌≡◌, refl, sym, ap, ◌∙◌}
+use Rattle.std.specs.Prelude.{Ok}
 use mathlib.Core.Bool.{Bool, true, false, ◌&&◌}
 use mathlib.Core.List.{List, [], ◌∷◌, ◌++◌}
 use Prim.Native.Nat.{ℕ, zero, suc, ◌+◌, ◌≤◌, ◌<◌}
@@ -8,7 +9,6 @@ use lib.Dec.{eqb, ltb, leb}
 use lib.ListN.{length, get_or, replicate, length-set, length-replicate, get_or-replicate}
 use Rattle.model.specs.declared.Event.{Event}
 use Rattle.model.specs.declared.Counts.{Counts}
-use Rattle.model.specs.declared.Check.{Check}
 use Rattle.model.specs.Numbers.{bit, count}
 use Rattle.model.specs.Recording.{Levels, join, read, write, post, flag_wait, of_task, is_on, class_of, names_of, known_kind, named, record_check}
 use Rattle.model.specs.Reading.{in_range}
@@ -105,7 +105,7 @@ small c v f h =
     }
 
 -- and so has one that passed the check
-pub passed_small : (c : Counts) (x : Levels) (before : List Event) (v : Event) → Few c → Check.Passed ≡ record_check c x before v → Small v
+pub passed_small : (c : Counts) (x : Levels) (before : List Event) (v : Event) → Few c → Ok tt ≡ record_check c x before v → Small v
 unfolding record_check
 passed_small c x before v f h =
     cases (known_kind c v)

@@ -1,85 +1,175 @@
-// What is known of a recording: one slice of numbers, with a table for each thing. A link is an event's
-// number plus 1, and 0 stands for none.
-use crate::memory::{at, put};
+// What is known of a recording: its events as far as they are read, what they add up to, and the vectors.
+ghost use Rattle.std.specs.Prelude.{◌≤◌};
 
-// How many numbers the state has.
-pub(crate) const STATE: usize = 58768;
+use crate::memory::at;
+use crate::vectors::Vectors;
 
-// By event, seven fields: its record; at a wait the start count of its semaphore, at a flag wait or a
-// post the post count of its flag; its place in its task, from 1; the event before it in its task or the
-// fork of its task; and what else it follows: at a join the last event of the joined task or its fork, at
-// a wait the signal that it takes, at a flag wait its flag. A flag stands for one more event, behind the
-// 1,024: it follows the posts that open it, and at such a post it stands in that last field.
-pub(crate) const TASK: u16 = 0;
+// The most events that a recording has.
+pub(crate) const EVENTS: usize = 1024;
 
-pub(crate) const KIND: u16 = 1;
+// A flag is one more event of the recorded run, behind the 1,024.
+pub(crate) const FLAGS_FROM: u16 = 1024;
 
-pub(crate) const OBJECT: u16 = 2;
+pub(crate) const WITH_FLAGS: usize = 1088;
 
-pub(crate) const LEVEL: u16 = 3;
-
-pub(crate) const POSITION: u16 = 4;
-
-pub(crate) const BEFORE: u16 = 5;
-
-pub(crate) const LINK: u16 = 6;
-
-// By kind and object: how many events there are, and the last one. The kind 0 stands for a task's own
-// events, of which its fork is the last before the first. Nobody asks for accesses, so cells may share
-// their numbers.
-pub(crate) const SEEN: u16 = 112;
-
-pub(crate) const LAST: u16 = 123;
-
-// By task and position: the event.
-pub(crate) const NAMED: usize = 8576;
-
-// The vectors, sixteen numbers each: safe ones, recorded ones, and recorded ones of flags.
-const VECTORS: usize = 24976;
-
-pub(crate) const SAFE: u16 = 0;
-
-pub(crate) const RECORDED: u16 = 1024;
-
-pub(crate) fn get(state: &[u16], e: u16, field: u16) -> u16 {
-    at(state, e as usize * 7 + field as usize)
+// The kinds of events.
+#[derive(Clone, Copy, PartialEq, Eq, Default)]
+pub(crate) enum Kind {
+    #[default]
+    Signal,
+    Wait,
+    Fork,
+    Join,
+    Read,
+    Write,
+    Post,
+    FlagWait,
+    SingleRead,
+    SingleWrite,
 }
 
-pub(crate) fn set(state: &mut [u16], e: u16, field: u16, v: u16) {
-    put(state, e as usize * 7 + field as usize, v);
-}
-
-// Where a table has the number of a kind and an object.
-pub(crate) fn tally(table: u16, kind: u16, object: u16) -> usize {
-    (table as usize + kind as usize) * 64 + (object % 64) as usize
-}
-
-// Where the event of a task and a position is named.
-pub(crate) fn named(task: u16, position: u16) -> usize {
-    NAMED + task as usize * 1024 + position as usize
-}
-
-// Where a vector has its number for a task.
-pub(crate) fn place(vectors: u16, e: u16, t: u16) -> usize {
-    VECTORS + (vectors as usize + e as usize) * 16 + t as usize
-}
-
-pub(crate) fn is_on(state: &[u16], e: u16, kind: u16, object: u16) -> bool {
-    (get(state, e, KIND) == kind) & (get(state, e, OBJECT) == object)
-}
-
-// What event e follows but for the event before it; 0 for none.
-pub(crate) fn followed(state: &[u16], e: u16) -> u16 {
-    if get(state, e, KIND) == 7 {
-        return 0;
+impl Kind {
+    // The kind of a byte in an edition.
+    pub(crate) fn of(byte: u8, edition: u16) -> Option<Kind> {
+        let kind = match byte {
+            1 => Kind::Signal,
+            2 => Kind::Wait,
+            3 => Kind::Fork,
+            4 => Kind::Join,
+            5 => Kind::Read,
+            6 => Kind::Write,
+            _ => return Kind::of_third(byte).filter(|_| edition == 3),
+        };
+        Some(kind)
     }
-    get(state, e, LINK)
+
+    // The kinds that edition 3 added.
+    fn of_third(byte: u8) -> Option<Kind> {
+        match byte {
+            7 => Some(Kind::Post),
+            8 => Some(Kind::FlagWait),
+            9 => Some(Kind::SingleRead),
+            10 => Some(Kind::SingleWrite),
+            _ => None,
+        }
+    }
 }
 
-// The flag that event e opens; 0 for none.
-pub(crate) fn opened(state: &[u16], e: u16) -> u16 {
-    if get(state, e, KIND) == 7 {
-        return get(state, e, LINK);
+// An event: its record; at a wait the start count of its semaphore, at a flag wait or a post the post count
+// of its flag; its place in its task, from 1; the event before it in its task or the fork of its task; what
+// else it follows: at a join the last event of the joined task or its fork, at a wait the signal that it
+// takes, at a flag wait its flag; and at a post that opens a flag that flag.
+#[derive(Clone, Copy, Default)]
+pub(crate) struct Event {
+    pub(crate) task: u16,
+    pub(crate) kind: Kind,
+    pub(crate) object: u16,
+    pub(crate) level: u16,
+    pub(crate) position: u16,
+    pub(crate) before: Option<u16>,
+    pub(crate) follows: Option<u16>,
+    pub(crate) opens: Option<u16>,
+}
+
+impl Event {
+    const NONE: Event = Event {
+        task: 0,
+        kind: Kind::Signal,
+        object: 0,
+        level: 0,
+        position: 0,
+        before: None,
+        follows: None,
+        opens: None,
+    };
+
+    pub(crate) fn is_on(&self, kind: Kind, object: u16) -> bool {
+        self.kind == kind && self.object == object
     }
-    0
+}
+
+// How many signals and waits there are so far.
+#[derive(Clone, Copy, Default)]
+pub(crate) struct Semaphore {
+    pub(crate) signals: u16,
+    pub(crate) waits: u16,
+}
+
+// What is known of a task so far: its last event is before the first its fork.
+#[derive(Clone, Copy, Default)]
+pub(crate) struct Task {
+    pub(crate) forked: bool,
+    pub(crate) joined: bool,
+    pub(crate) events: u16,
+    pub(crate) last: Option<u16>,
+}
+
+// What the events add up to; of a flag, its posts.
+#[derive(Clone, Copy)]
+pub(crate) struct Seen {
+    pub(crate) semaphores: [Semaphore; 64],
+    pub(crate) posts: [u16; 64],
+    pub(crate) tasks: [Task; 16],
+}
+
+impl Seen {
+    const NONE: Seen = Seen {
+        semaphores: [Semaphore {
+            signals: 0,
+            waits: 0,
+        }; 64],
+        posts: [0; 64],
+        tasks: [Task {
+            forked: false,
+            joined: false,
+            events: 0,
+            last: None,
+        }; 16],
+    };
+}
+
+// The events lie in an array with their number beside it: an ArrayVec was tried, and Rattle's own compiler takes 5
+// microseconds to fill one, where reading a short file takes 6 with the array. The vectors lie apart from the events,
+// since the recorded ones are also of flags.
+#[derive(Drop)]
+pub(crate) struct State {
+    events: [Event; EVENTS],
+    count: usize,
+    pub(crate) seen: Seen,
+    pub(crate) safe: Vectors<EVENTS>,
+    pub(crate) recorded: Vectors<WITH_FLAGS>,
+    ghost fits: { count ≤ 1024 },
+}
+
+impl State {
+    // A constant: returned by a function, Rattle's own compiler would copy it once more.
+    pub(crate) const EMPTY: State = State {
+        events: [Event::NONE; EVENTS],
+        count: 0,
+        seen: Seen::NONE,
+        safe: Vectors {
+            rows: [[0; 16]; EVENTS],
+        },
+        recorded: Vectors {
+            rows: [[0; 16]; WITH_FLAGS],
+        },
+    };
+
+    // The events as far as they are read.
+    pub(crate) fn events(&self) -> &[Event] {
+        &self.events[..self.count]
+    }
+
+    // One of them.
+    pub(crate) fn event(&self, e: u16) -> Event {
+        at(&self.events, e as usize)
+    }
+
+    // Takes one more event; nothing where there is no room.
+    pub(crate) fn push(&mut self, event: Event) {
+        if self.count < EVENTS {
+            self.events[self.count] = event;
+            self.count += 1;
+        }
+    }
 }

@@ -1,69 +1,55 @@
 // Two stretches of work, by their events: each event of the one is held against each of the other, and two
 // stretches overlap where an event is in both.
-use crate::state::{POSITION, SAFE, TASK, get};
+use crate::state::{Event, State};
 use crate::vectors::before;
-use crate::{Reading, Stretch};
-use std::num::wrapping_add_u16;
+use crate::{Lead, Stretch};
 
-// Event e is in a stretch.
-fn within(state: &[u16], s: Stretch, e: u16) -> bool {
-    let position = get(state, e, POSITION);
-    (get(state, e, TASK) == s.task) & (s.first <= position) & (position <= s.last)
-}
-
-// How many of n events are in both stretches.
-fn count_common(state: &[u16], n: u16, one: Stretch, other: Stretch) -> u16 {
-    let mut count = 0;
-    for e in 0..n {
-        if within(state, one, e) & within(state, other, e) {
-            count = wrapping_add_u16(count, 1);
-        }
+impl Stretch {
+    fn has(&self, x: &Event) -> bool {
+        x.task == self.task && self.first <= x.position && x.position <= self.last
     }
-    count
+
+    // A task of the recording has each position of the stretch.
+    fn is_known(&self, state: &State, tasks: u16) -> bool {
+        let task = self.task;
+        let own = state.events().iter().filter(|x| x.task == task).count();
+        task < tasks && self.first != 0 && self.first <= self.last && self.last as usize <= own
+    }
 }
 
-// A task of the recording has each position of the stretch.
-fn is_stretch(state: &[u16], r: Reading, s: Stretch) -> bool {
-    let mut whole = s;
-    whole.first = 0;
-    whole.last = 65535;
-    let own = count_common(state, r.events, whole, whole);
-    (s.task < r.tasks) & (s.first != 0) & (s.first <= s.last) & (s.last <= own)
+// Both are stretches of a recording with so many tasks, and they do not overlap.
+pub(crate) fn are_stretches(state: &State, tasks: u16, one: &Stretch, other: &Stretch) -> bool {
+    let overlap = state.events().iter().any(|x| one.has(x) && other.has(x));
+    one.is_known(state, tasks) && other.is_known(state, tasks) && !overlap
 }
 
-// Both are stretches of the recording that was read so, and they do not overlap.
-pub(crate) fn are_stretches(state: &[u16], r: Reading, one: Stretch, other: Stretch) -> bool {
-    let known = is_stretch(state, r, one) & is_stretch(state, r, other);
-    known & (count_common(state, r.events, one, other) == 0)
-}
-
-// Event a is ordered before each of n events that is in the stretch.
-fn is_before(state: &[u16], n: u16, a: u16, s: Stretch) -> bool {
-    for b in 0..n {
-        if within(state, s, b) & !before(state, SAFE, a, b) {
+// Event a is ordered before each that is in the stretch.
+fn is_before(state: &State, a: u16, s: &Stretch) -> bool {
+    for (b, x) in (0u16..).zip(state.events()) {
+        if s.has(x) && !before(state, &state.safe, a, b) {
             return false;
         }
     }
     true
 }
 
-// Each of n events that is in the one stretch is ordered before each that is in the other.
-fn all_before(state: &[u16], n: u16, one: Stretch, other: Stretch) -> bool {
-    for a in 0..n {
-        if within(state, one, a) && !is_before(state, n, a, other) {
+// Each event that is in the one stretch is ordered before each that is in the other.
+fn all_before(state: &State, one: &Stretch, other: &Stretch) -> bool {
+    for (a, x) in (0u16..).zip(state.events()) {
+        if one.has(x) && !is_before(state, a, other) {
             return false;
         }
     }
     true
 }
 
-// Which of two stretches is before the other: 1 the one, 2 the other, 3 neither.
-pub(crate) fn lead(state: &[u16], n: u16, one: Stretch, other: Stretch) -> u16 {
-    if all_before(state, n, one, other) {
-        return 1;
+// Which of two stretches is before the other.
+pub(crate) fn lead(state: &State, one: &Stretch, other: &Stretch) -> Lead {
+    if all_before(state, one, other) {
+        return Lead::First;
     }
-    if all_before(state, n, other, one) {
-        return 2;
+    if all_before(state, other, one) {
+        return Lead::Second;
     }
-    3
+    Lead::Neither
 }

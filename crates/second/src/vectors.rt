@@ -1,17 +1,63 @@
 // Safe and recorded vectors. The k-th least is found by counting how often each value occurs.
 use crate::Reading;
 use crate::memory::{at, put};
-use crate::state::{
-    BEFORE, KIND, LEVEL, LINK, OBJECT, POSITION, RECORDED, SAFE, TASK, followed, get, is_on,
-    opened, place,
-};
-use std::num::{wrapping_add_u16, wrapping_add_u32, wrapping_sub_u16};
+use crate::state::{Event, Kind, State};
 
+// A vector: a number for each task.
+pub(crate) type Row = [u16; 16];
+
+// The vectors of so many events and flags.
+#[derive(Drop)]
+pub(crate) struct Vectors<const N: usize> {
+    pub(crate) rows: [Row; N],
+}
+
+impl<const N: usize> Vectors<N> {
+    pub(crate) fn row(&self, e: u16) -> Row {
+        self.rows.get(e as usize).copied().unwrap_or([0; 16])
+    }
+
+    // Raises the vector of an event, and answers whether it rose.
+    pub(crate) fn raise(&mut self, e: u16, by: &Row) -> bool {
+        match self.rows.get_mut(e as usize) {
+            Some(row) => raise_row(row, by),
+            None => false,
+        }
+    }
+
+    // Raises it by that of another event, if any.
+    fn raise_by(&mut self, e: u16, other: Option<u16>) -> bool {
+        match other {
+            Some(x) => {
+                let by = self.row(x);
+                self.raise(e, &by)
+            }
+            None => false,
+        }
+    }
+}
+
+// Raises each number to that of the other vector, and answers whether one rose.
+fn raise_row(row: &mut Row, by: &Row) -> bool {
+    let mut rose = false;
+    for (number, least) in row.iter_mut().zip(by) {
+        if *number < *least {
+            *number = *least;
+            rose = true;
+        }
+    }
+    rose
+}
+
+// How many passes were made, and whether they settled.
 #[derive(Clone, Copy)]
 pub(crate) struct Passes {
-    pub(crate) passes: u32,
+    pub(crate) made: u32,
     pub(crate) settled: bool,
 }
+
+// How often each value occurs among the candidates' numbers for each task.
+type Occurrences = [[u16; 16]; 1025];
 
 // What a wait finds among the events: how many waits on its semaphore are ordered before it, and how many
 // candidates there are.
@@ -21,103 +67,88 @@ struct Found {
     candidates: u16,
 }
 
-// Raises one number, and answers whether it rose.
-fn lift(state: &mut [u16], i: usize, value: u16) -> bool {
-    if value <= at(state, i) {
-        return false;
-    }
-    put(state, i, value);
-    true
-}
-
-// Raises the vector of e by that of a link, and answers whether it rose.
-fn raise(state: &mut [u16], vectors: u16, e: u16, link: u16) -> bool {
-    if link == 0 {
-        return false;
-    }
-    let mut rose = false;
-    for t in 0..16u16 {
-        let value = at(state, place(vectors, wrapping_sub_u16(link, 1), t));
-        rose = lift(state, place(vectors, e, t), value) | rose;
-    }
-    rose
-}
-
 // Step 1.
-fn follow(state: &mut [u16], e: u16) -> bool {
-    let link = if get(state, e, KIND) == 4 {
-        get(state, e, LINK)
+fn follow(state: &mut State, e: u16, event: &Event) -> bool {
+    let joined = if event.kind == Kind::Join {
+        event.follows
     } else {
-        0
+        None
     };
-    let rose = raise(state, SAFE, e, get(state, e, BEFORE));
-    raise(state, SAFE, e, link) | rose
+    let rose = state.safe.raise_by(e, event.before);
+    state.safe.raise_by(e, joined) | rose
 }
 
 // The starting vector of event e, and its recorded one. A flag follows the posts that open it.
-pub(crate) fn replay(state: &mut [u16], e: u16, task: u16) {
-    let position = get(state, e, POSITION);
-    put(state, place(SAFE, e, task), position);
-    put(state, place(RECORDED, e, task), position);
-    raise(state, RECORDED, e, get(state, e, BEFORE));
-    raise(state, RECORDED, e, followed(state, e));
-    let flag = opened(state, e);
-    if flag != 0 {
-        raise(state, RECORDED, flag - 1, wrapping_add_u16(e, 1));
+pub(crate) fn replay(state: &mut State, e: u16, event: &Event) {
+    let mut start = [0u16; 16];
+    put(&mut start, event.task as usize, event.position);
+    state.safe.raise(e, &start);
+    state.recorded.raise(e, &start);
+    state.recorded.raise_by(e, event.before);
+    state.recorded.raise_by(e, event.follows);
+    if let Some(flag) = event.opens {
+        state.recorded.raise_by(flag, Some(e));
     }
+}
+
+// An event a, as it is before b or not by the vector of b.
+fn is_in(event: &Event, vector: &Row) -> bool {
+    event.position <= at(vector, event.task as usize)
 }
 
 // Event a is ordered before event b.
-pub(crate) fn before(state: &[u16], vectors: u16, a: u16, b: u16) -> bool {
-    let number = at(state, place(vectors, b, get(state, a, TASK)));
-    (a != b) & (get(state, a, POSITION) <= number)
+pub(crate) fn before<const N: usize>(state: &State, vectors: &Vectors<N>, a: u16, b: u16) -> bool {
+    a != b && is_in(&state.event(a), &vectors.row(b))
 }
 
-pub(crate) fn unordered(state: &[u16], vectors: u16, a: u16, b: u16) -> bool {
-    !(before(state, vectors, a, b) | before(state, vectors, b, a))
+pub(crate) fn unordered<const N: usize>(
+    state: &State,
+    vectors: &Vectors<N>,
+    a: u16,
+    b: u16,
+) -> bool {
+    !(before(state, vectors, a, b) || before(state, vectors, b, a))
 }
 
 // Counts the numbers of a candidate, by value and task.
-fn count_numbers(state: &[u16], s: u16, counts: &mut [u16]) {
-    for t in 0..16u16 {
-        let i = at(state, place(SAFE, s, t)) as usize * 16 + t as usize;
-        put(counts, i, wrapping_add_u16(at(counts, i), 1));
+fn count_numbers(vector: &Row, counts: &mut Occurrences) {
+    for (t, value) in vector.iter().enumerate() {
+        if let Some(numbers) = counts.get_mut(*value as usize) {
+            let so_far = at(numbers, t);
+            put(numbers, t, so_far.wrapping_add(1));
+        }
     }
 }
 
-// Goes on to event x: a wait that is ordered before e, or a candidate of e.
-fn meet(state: &[u16], e: u16, x: u16, found: Found, counts: &mut [u16]) -> Found {
-    let kind = get(state, e, KIND);
-    let object = get(state, e, OBJECT);
-    let serves = if kind == 2 { 1 } else { 7 };
-    let mut f = found;
-    if is_on(state, x, 2, object) & before(state, SAFE, x, e) {
-        f.waits = wrapping_add_u16(f.waits, 1);
-    }
-    if is_on(state, x, serves, object) & !before(state, SAFE, e, x) {
-        count_numbers(state, x, counts);
-        f.candidates = wrapping_add_u16(f.candidates, 1);
-    }
-    f
-}
-
-// What a wait or a flag wait e finds among n events.
-fn find(state: &[u16], n: u16, e: u16, counts: &mut [u16]) -> Found {
+// What a wait or a flag wait e finds among the events.
+fn find(state: &State, e: u16, event: &Event, counts: &mut Occurrences) -> Found {
+    let serves = if event.kind == Kind::Wait {
+        Kind::Signal
+    } else {
+        Kind::Post
+    };
+    let own = state.safe.row(e);
     let mut found = Found {
         waits: 0,
         candidates: 0,
     };
-    for x in 0..n {
-        found = meet(state, e, x, found, counts);
+    for (i, x) in (0u16..).zip(state.events()) {
+        if x.is_on(Kind::Wait, event.object) && i != e && is_in(x, &own) {
+            found.waits = found.waits.wrapping_add(1);
+        }
+        if x.is_on(serves, event.object) && !is_in(event, &state.safe.row(i)) {
+            count_numbers(&state.safe.row(i), counts);
+            found.candidates = found.candidates.wrapping_add(1);
+        }
     }
     found
 }
 
 // The k-th least value that was counted for a task, or 0.
-fn kth(counts: &[u16], t: u16, k: u16) -> u16 {
-    let mut passed = 0;
-    for value in 0..1025u16 {
-        passed = wrapping_add_u16(passed, at(counts, value as usize * 16 + t as usize));
+fn kth(counts: &Occurrences, t: usize, k: u16) -> u16 {
+    let mut passed = 0u16;
+    for (value, numbers) in (0u16..).zip(counts) {
+        passed = passed.wrapping_add(at(numbers, t));
         if k <= passed {
             return value;
         }
@@ -125,104 +156,101 @@ fn kth(counts: &[u16], t: u16, k: u16) -> u16 {
     0
 }
 
-// Raises each number of e to the k-th least.
-fn raise_to_kth(state: &mut [u16], e: u16, counts: &[u16], k: u16) -> bool {
-    let mut rose = false;
-    for t in 0..16u16 {
-        rose = lift(state, place(SAFE, e, t), kth(counts, t, k)) | rose;
+// The k-th least value for each task.
+fn kth_row(counts: &Occurrences, k: u16) -> Row {
+    let mut row = [0u16; 16];
+    for (t, number) in row.iter_mut().enumerate() {
+        *number = kth(counts, t, k);
     }
-    rose
+    row
 }
 
-// How many posts a flag wait e needs, as its level says; or how many signals a wait e needs, for the waits
+// How many posts a flag wait needs, as its level says; or how many signals a wait needs, for the waits
 // before it and for itself, but for those that are there from the start.
-fn needed(state: &[u16], e: u16, waits: u16) -> u16 {
-    let level = get(state, e, LEVEL);
-    if get(state, e, KIND) == 8 {
-        return level;
+fn needed(event: &Event, waits: u16) -> u16 {
+    if event.kind == Kind::FlagWait {
+        return event.level;
     }
-    if waits < level {
-        0
-    } else {
-        wrapping_add_u16(waits - level, 1)
+    match waits.checked_sub(event.level) {
+        Some(more) => more.wrapping_add(1),
+        None => 0,
     }
 }
 
 // Step 2 for a wait or a flag wait e.
-fn serve(state: &mut [u16], n: u16, e: u16) -> bool {
-    let mut counts = [0u16; 16400];
-    let found = find(state, n, e, &mut counts);
-    let k = needed(state, e, found.waits);
-    if (k == 0) | (found.candidates < k) {
+fn serve(state: &mut State, e: u16, event: &Event) -> bool {
+    let mut counts = [[0u16; 16]; 1025];
+    let found = find(state, e, event, &mut counts);
+    let k = needed(event, found.waits);
+    if k == 0 || found.candidates < k {
         return false;
     }
-    raise_to_kth(state, e, &counts, k)
+    state.safe.raise(e, &kth_row(&counts, k))
 }
 
 // Both steps for event e.
-fn raise_event(state: &mut [u16], n: u16, e: u16) -> bool {
-    let followed = follow(state, e);
-    let kind = get(state, e, KIND);
-    if (kind != 2) & (kind != 8) {
-        return followed;
+fn raise_event(state: &mut State, e: u16) -> bool {
+    let event = state.event(e);
+    let followed = follow(state, e, &event);
+    match event.kind {
+        Kind::Wait | Kind::FlagWait => serve(state, e, &event) | followed,
+        _ => followed,
     }
-    serve(state, n, e) | followed
 }
 
-fn pass(state: &mut [u16], n: u16) -> bool {
+fn pass(state: &mut State, n: u16) -> bool {
     let mut rose = false;
     for e in 0..n {
-        rose = raise_event(state, n, e) | rose;
+        rose = raise_event(state, e) | rose;
     }
     rose
 }
 
 // The safe vectors of n events.
-fn run(state: &mut [u16], n: u16, budget: u32) -> Passes {
+fn run(state: &mut State, n: u16, budget: u32) -> Passes {
     for made in 0..budget {
         if !pass(state, n) {
             return Passes {
-                passes: wrapping_add_u32(made, 1),
+                made: made + 1,
                 settled: true,
             };
         }
     }
     Passes {
-        passes: budget,
+        made: budget,
         settled: false,
     }
 }
 
-// Work number i becomes that of its vector, a safe one or behind those a recorded one. Answers whether
-// there is one.
-fn put_number(state: &[u16], r: Reading, i: usize, work: &mut [u16]) -> bool {
-    let tasks = r.tasks as usize;
-    if tasks == 0 || 2 * (r.events as usize) <= i / tasks {
-        return false;
-    }
-    let row = (i / tasks % 2048) as u16;
-    let t = (i % tasks % 16) as u16;
-    let spot = if row < r.events {
-        place(SAFE, row, t)
-    } else {
-        place(RECORDED, row - r.events, t)
-    };
-    put(work, i, at(state, spot));
-    true
-}
-
-// The vectors become the work numbers.
-fn put_vectors(state: &[u16], r: Reading, work: &mut [u16]) {
-    for i in 0..work.len() {
-        if !put_number(state, r, i, work) {
-            return;
-        }
+// The numbers of a vector for the first tasks, as many as there is room for.
+fn put_row(row: &Row, room: &mut [u16]) {
+    for (number, value) in room.iter_mut().zip(row) {
+        *number = *value;
     }
 }
 
-// Makes the passes, and leaves the vectors in the work numbers.
-pub(crate) fn fill(state: &mut [u16], r: Reading, budget: u32, work: &mut [u16]) -> Passes {
-    let passes = run(state, r.events, budget);
-    put_vectors(state, r, work);
+// The vectors of the events, one behind the other.
+fn put_rows(rows: &[Row], r: &Reading, room: &mut [u16]) {
+    let width = r.tasks.max(1) as usize;
+    for (row, numbers) in rows
+        .iter()
+        .take(r.events as usize)
+        .zip(room.chunks_exact_mut(width))
+    {
+        put_row(row, numbers);
+    }
+}
+
+// Makes the passes, and leaves the vectors in the work numbers: the safe ones, and behind those the recorded
+// ones.
+pub(crate) fn fill(state: &mut State, r: &Reading, budget: u32, work: &mut [u16]) -> Passes {
+    let n = r.events;
+    let passes = run(state, n, budget);
+    let share = n as usize * r.tasks as usize;
+    if share <= work.len() {
+        let (safe, recorded) = work.split_at_mut(share);
+        put_rows(&state.safe.rows, r, safe);
+        put_rows(&state.recorded.rows, r, recorded);
+    }
     passes
 }

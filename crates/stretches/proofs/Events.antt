@@ -1,6 +1,7 @@
 -- The events of a stretch: which they are, that its first and its last are among them, and what the checks of 17 tell.
 -- Assumes nothing.
 use Prim.Native.Nat.{ℕ, zero, suc, ◌-◌, ◌≤◌, ◌<◌}
+use Rattle.std.specs.Prelude.{Option, Some, None}
 use mathlib.Core.Path.{◌≡◌, refl, sym, ap, ◌∙◌}
 use mathlib.Core.Bool.{Bool, true, not, ◌&&◌}
 use mathlib.Core.List.{List}
@@ -9,7 +10,6 @@ use native.Mathlib.Omega.{arith}
 use lib.Dec.{leb, ltb}
 use lib.ListN.{length, get_or}
 use Rattle.model.specs.declared.Event.{Event}
-use Rattle.model.specs.declared.Found.{Found}
 use Rattle.model.specs.Numbers.{tally}
 use Rattle.model.specs.Recording.{Recording, tasks, event_in, of_task}
 use Rattle.model.specs.Vectors.{Vectors, position}
@@ -23,7 +23,7 @@ use Rattle.model.proofs.Twins.{own_at, named_of, finds}
 use Rattle.stretches.specs.declared.Stretch.{Stretch}
 use Rattle.stretches.specs.Stretches.{all, within, before, is_stretch, overlap, two_stretches}
 use Rattle.stretches.specs.AllEvents.{AllOrdered}
-use Rattle.stretches.specs.Lent.{is_found}
+use Rattle.std.specs.Prelude.{is_some}
 
 -- ---- every number passes a test
 
@@ -65,24 +65,24 @@ position_at l t p i j =
     let (inside, own, here) = own_at l t (p - 1) (omega arith) in
     (get_or (own_events l t) (p - 1) 0, record { inside = inside; own = own; here = here ∙ (let e : suc (p - 1) ≡ p = omega arith in e) })
 
-pub found_at : (l : List Event) (t p a : ℕ) → At l t p a → at_position l t p ≡ Found.At a
+pub found_at : (l : List Event) (t p a : ℕ) → At l t p a → at_position l t p ≡ Some a
 found_at l t p a e = finds l t p a e.inside e.own e.here
 
 -- a task has a position where an event is found there
-pub has_position : (l : List Event) (t p : ℕ) → 1 ≤ p → leb p (length (own_events l t)) ≡ is_found (at_position l t p)
+pub has_position : (l : List Event) (t p : ℕ) → 1 ≤ p → leb p (length (own_events l t)) ≡ is_some (at_position l t p)
 has_position l t p low = go (at_position l t p) refl
   where
     mine : ℕ → Bool
     mine e = of_task t (event_in l e)
 
-    go : (f : Found) → at_position l t p ≡ f → leb p (length (own_events l t)) ≡ is_found f
-    go (Found.At a) q =
+    go : (f : Option ℕ) → at_position l t p ≡ f → leb p (length (own_events l t)) ≡ is_some f
+    go (Some a) q =
         let (i, own, here) = named_of l t p a q in
         let rank = position_rank l a ∙ ap (λ (x : ℕ). suc (tally (λ e. of_task x (event_in l e)) a)) own in
         let most = rank_rises mine a (length l) i (eq-eqb _ t own) in
         let all = picked_length mine (length l) in
         le-leb p (length (own_events l t)) (omega arith)
-    go Found.Nothing q =
+    go None q =
         fails (leb p (length (own_events l t)))
         (λ h.
         let k = leb-true p (length (own_events l t)) h in

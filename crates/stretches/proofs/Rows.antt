@@ -1,11 +1,11 @@
 -- The rows: each computes.
 -- Assumes nothing.
 use mathlib.Core.Path.{◌≡◌, refl}
+use Rattle.std.specs.Prelude.{Result, Ok, Err}
 use Rattle.model.specs.declared.Refusal.{Refusal}
 use Rattle.model.specs.Rows.Starred.{RefusedAlone}
 use Rattle.model.proofs.Computing.{rows, refusal}
 use Rattle.stretches.specs.declared.Lead.{Lead}
-use Rattle.stretches.specs.declared.Compared.{Compared}
 use Rattle.stretches.specs.Stretches.{lead_number, all, within, before, lead_of, is_stretch, overlap, two_stretches, stretch_check, comparing_check, compared_of, work_after_comparing}
 use Rattle.stretches.specs.Rows.{Stretched}
 
@@ -45,9 +45,9 @@ stretched = record {
   overlap_same = no_stretches;
   overlap_in = no_stretches;
   overlap_around = no_stretches;
-  work_short = refusal Compared.Refused Refusal.Work;
-  file_before_stretch = refusal Compared.Refused (Refusal.Life 0);
-  stretch_before_work = refusal Compared.Refused Refusal.Stretch;
+  work_short = refusal Refusal.Work;
+  file_before_stretch = refusal (Refusal.Life 0);
+  stretch_before_work = refusal Refusal.Stretch;
   work_left = refl;
   work_neither = refl;
   work_analysed = refl;
@@ -56,8 +56,8 @@ stretched = record {
   work_kept = refl;
 }
   where
-    leads : (x : Lead) → (y : Lead) × (Compared.Leads x ≡ Compared.Leads y) × (lead_number y ≡ lead_number x)
+    leads : (x : Lead) → (y : Lead) × (◌≡◌ {A = Result Lead Refusal} (Ok x) (Ok y)) × (lead_number y ≡ lead_number x)
     leads x = (x, refl, refl)
 
-    no_stretches : RefusedAlone Compared.Refused (Compared.Refused Refusal.Stretch) 17
+    no_stretches : RefusedAlone {A = Lead} (Err Refusal.Stretch) 17
     no_stretches = (Refusal.Stretch, refl, refl, refl, refl, refl, refl)

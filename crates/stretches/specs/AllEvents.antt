@@ -1,11 +1,9 @@
 -- What is promised of two stretches that do not overlap (document 02, No. 9), of every file that reading accepts and of every budget:
 -- the answer says exactly what all their events say, and a first or second holds in every admissible order and at every larger budget.
 -- Assumes nothing.
-use Rattle.std.specs.Prelude.{ℕ, ◌<◌, ◌≤◌, ◌≡◌, true, List, ◌↔◌, length}
+use Rattle.std.specs.Prelude.{ℕ, ◌<◌, ◌≤◌, ◌≡◌, true, List, ◌↔◌, length, Some, Ok}
 use Rattle.model.specs.declared.Event.{Event}
 use Rattle.model.specs.declared.Trailer.{Trailer}
-use Rattle.model.specs.declared.Reading.{Reading}
-use Rattle.model.specs.declared.Found.{Found}
 use Rattle.model.specs.Recording.{Recording}
 use Rattle.model.specs.File.{recording_of}
 use Rattle.model.specs.Reading.{reading_of}
@@ -31,7 +29,7 @@ AllOrdered l X r s = OfAll l r s (λ a b. ordered l X a b ≡ true)
 -- the last event of r and the first of s decide whether r is before s
 abbrev pub ByEnds : List Event → Vectors → Stretch → Stretch → Type 0
 ByEnds l X r s =
-    (a : ℕ) × (b : ℕ) × (at_position l r.task r.last ≡ Found.At a) × (at_position l s.task s.first ≡ Found.At b)
+    (a : ℕ) × (b : ℕ) × (at_position l r.task r.last ≡ Some a) × (at_position l s.task s.first ≡ Some b)
     × (before l X r s ≡ ordered l X a b)
 
 pub record StretchPromise (E : Recording) (r s : Stretch) (budget : ℕ) : Type 0 where
@@ -58,5 +56,5 @@ pub record StretchPromise (E : Recording) (r s : Stretch) (budget : ℕ) : Type 
 -- the statement, proved as `stretch_promise` in proofs/AllEvents.antt
 abbrev pub StretchPromised : Type 0
 StretchPromised =
-    (f : List ℕ) (h : Trailer) → reading_of f ≡ Reading.Accepted h
+    (f : List ℕ) (h : Trailer) → reading_of f ≡ Ok h
     → (r s : Stretch) → two_stretches (recording_of f) r s ≡ true → (budget : ℕ) → StretchPromise (recording_of f) r s budget

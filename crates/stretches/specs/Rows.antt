@@ -1,14 +1,13 @@
 -- Stretches (document 02, No. 9): answers of each number on recordings of documents 01 and 02, each way in which two are no stretches,
 -- which refusal is answered where two apply, and what is left in the work memory.
 -- Proved as `stretched` in proofs/Rows.antt. Assumes nothing.
-use Rattle.std.specs.Prelude.{ℕ, ◌≡◌, List, ◌++◌}
+use Rattle.std.specs.Prelude.{ℕ, ◌≡◌, List, ◌++◌, Ok}
 use Rattle.model.specs.Analysing.{work_after_analysing}
 use Rattle.model.specs.Rows.Starred.{W, R, Fork, Join, file, A, D, E, G, I, work, RefusedAs, RefusedAlone}
 use Rattle.model.specs.Rows.Table.{lent}
 use Rattle.model.specs.Rows.Lent.{A_start, A_raised}
 use Rattle.stretches.specs.declared.Stretch.{Stretch}
 use Rattle.stretches.specs.declared.Lead.{Lead}
-use Rattle.stretches.specs.declared.Compared.{Compared}
 use Rattle.stretches.specs.Stretches.{lead_number, compared_of, work_after_comparing}
 
 -- the positions i to j of task t
@@ -17,15 +16,15 @@ from t i j = record { task = t; first = i; last = j }
 
 -- the answer for r and s with budget b has this number
 abbrev pub Leads : List ℕ → Stretch → Stretch → ℕ → ℕ → Type 0
-Leads f r s b n = (x : Lead) × (compared_of f r s b work ≡ Compared.Leads x) × (lead_number x ≡ n)
+Leads f r s b n = (x : Lead) × (compared_of f r s b work ≡ Ok x) × (lead_number x ≡ n)
 
 -- the call is refused by 17
 abbrev pub NoStretches : List ℕ → Stretch → Stretch → Type 0
-NoStretches f r s = RefusedAlone Compared.Refused (compared_of f r s 37 work) 17
+NoStretches f r s = RefusedAlone (compared_of f r s 37 work) 17
 
 -- with m work numbers the call is refused by this number at this record
 abbrev pub Refused : List ℕ → Stretch → Stretch → ℕ → ℕ → ℕ → Type 0
-Refused f r s m number e = RefusedAs Compared.Refused (compared_of f r s 37 (lent m)) number e 0
+Refused f r s m number e = RefusedAs (compared_of f r s 37 (lent m)) number e 0
 
 -- task 0 forks task 1, which writes and reads, and joins it
 abbrev pub inner : List ℕ

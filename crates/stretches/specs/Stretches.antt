@@ -1,10 +1,9 @@
 -- A stretch of work before another (document 02, No. 9): a stretch is a task with a first and a last position.
 -- Assumes nothing.
-use Rattle.std.specs.Prelude.{ℕ, zero, suc, Bool, true, not, ◌&&◌, cond, List, leb, ltb, eqb, length}
+use Rattle.std.specs.Prelude.{ℕ, zero, suc, Bool, true, not, ◌&&◌, cond, List, leb, ltb, eqb, length, Result, Ok, Err}
 use Rattle.model.specs.declared.Event.{Event}
 use Rattle.model.specs.declared.Refusal.{Refusal}
-use Rattle.model.specs.declared.Check.{Check}
-use Rattle.model.specs.Refusals.{unless, and_then, after}
+use Rattle.model.specs.Refusals.{Check, unless, and_then, after}
 use Rattle.model.specs.Recording.{Recording, tasks, event_in, of_task, implies}
 use Rattle.model.specs.File.{recording_of}
 use Rattle.model.specs.Reading.{file_check}
@@ -14,7 +13,6 @@ use Rattle.model.specs.Pairs.{own_events}
 use Rattle.model.specs.Analysing.{work_fits, filled}
 use Rattle.stretches.specs.declared.Stretch.{Stretch}
 use Rattle.stretches.specs.declared.Lead.{Lead}
-use Rattle.stretches.specs.declared.Compared.{Compared}
 
 -- 1 first, 2 second, 3 neither
 abbrev pub lead_number : Lead → ℕ
@@ -65,19 +63,19 @@ unfoldable pub stretch_check : Recording → Stretch → Stretch → List ℕ �
 stretch_check E r s work =
     unless (two_stretches E r s) Refusal.Stretch λ _.
     unless (work_fits E work) Refusal.Work λ _.
-    Check.Passed
+    Ok tt
 
 -- the file's refusal, then these
 unfoldable pub comparing_check : List ℕ → Stretch → Stretch → List ℕ → Check
 comparing_check f r s work = and_then (file_check f) λ _. stretch_check (recording_of f) r s work
 
 -- the answer, or the refusal
-abbrev pub compared_by : Recording → Stretch → Stretch → ℕ → Check → Compared
-compared_by E r s budget Check.Passed = Compared.Leads (lead_of E r s budget)
-compared_by E r s budget (Check.Failed x) = Compared.Refused x
+abbrev pub compared_by : Recording → Stretch → Stretch → ℕ → Check → Result Lead Refusal
+compared_by E r s budget (Ok tt) = Ok (lead_of E r s budget)
+compared_by E r s budget (Err x) = Err x
 
 -- what comparing two stretches answers
-unfoldable pub compared_of : List ℕ → Stretch → Stretch → ℕ → List ℕ → Compared
+unfoldable pub compared_of : List ℕ → Stretch → Stretch → ℕ → List ℕ → Result Lead Refusal
 compared_of f r s budget work = compared_by (recording_of f) r s budget (comparing_check f r s work)
 
 -- the work memory after comparing: filled as after analysing

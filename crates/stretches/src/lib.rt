@@ -1,18 +1,33 @@
 // A stretch of work before another: which of two stretches of a recording file is before the other.
 #![tactic(auto)]
 
-ghost use Rattle.std.specs.Prelude.{◌≡◌, ◌&&◌, [], ◌+◌, ◌*◌, ◌/◌, ◌<◌, eqb, length};
+ghost use Rattle.std.specs.Prelude.{◌≡◌, ◌&&◌, ◌+◌, ◌*◌, ◌/◌, ◌<◌, eqb, length};
+ghost use Rattle.model.specs.Refusals.{after};
 ghost use Rattle.model.specs.Recording.{event_in, of_task};
-ghost use Rattle.model.specs.File.{events_of, recording_by};
+ghost use Rattle.model.specs.File.{events_of};
 ghost use Rattle.model.specs.Reading.{reading_of};
 ghost use Rattle.model.specs.Vectors.{position};
 ghost use Rattle.model.specs.Together.{at_position};
+ghost use Rattle.model.specs.Analysing.{filled};
 ghost use Rattle.events.specs.Kept.{Positions, Below};
-ghost use Rattle.passes.specs.Lent.{vectors_in, Placed, Fitting};
-ghost use Rattle.stretches.specs.Stretches.{lead_number, is_stretch, overlap, two_stretches, compared_of, work_after_comparing};
-ghost use Rattle.stretches.specs.Lent.{is_found, ends_ordered, lead_by_ends, ComparedAs};
+ghost use Rattle.passes.specs.Lookups.{vectors_of};
+ghost use Rattle.work.specs.Ready.{recording_of};
+ghost use Rattle.stretches.specs.Stretches.{
+  lead_number,
+  is_stretch,
+  overlap,
+  two_stretches,
+  stretch_check,
+  compared_by,
+  compared_of,
+  work_after_comparing,
+};
+ghost use Rattle.stretches.specs.Lent.{ends_ordered, lead_by_ends};
 
-use model::{Counts, Found, Reading, Refusal, Trailer};
+use events::Parts;
+use model::{Refusal, Trailer};
+use passes::EventVectors;
+use work::ReadyEvents;
 
 // A stretch of work: a task, with a first and a last position.
 #[derive(Clone, Copy)]
@@ -30,15 +45,8 @@ pub enum Lead {
     Neither,
 }
 
-// The answer to comparing two stretches.
-#[derive(Clone, Copy)]
-pub enum Compared {
-    Leads(Lead),
-    Refused(Refusal),
-}
-
 impl Lead {
-    // The number of the answer: 1 first, 2 second, 3 neither.
+    // The number of the answer: 1 first, 2 second, 3 neither. A method, as `Refusal::number` is.
     pub fn number(self) -> u8
         ensures { result ≡ lead_number self }
     {
@@ -50,51 +58,54 @@ impl Lead {
     }
 }
 
-// Whether event e is this task's, at this position.
-fn is_at(records: &[u8], positions: &[u16], e: usize, task: u16, at: u16) -> bool
-    requires { Positions (events_of records.now) positions.now × (4 * e + 3 < length records.now) }
-    ensures { result ≡ (of_task task (event_in (events_of records.now) e) && eqb (position (events_of records.now) e) at) }
-{
-    let v = events::event_at(records, e);
-    (v.task as u16 == task) & (positions[e] == at)
+// The events of the records, and their positions.
+#[derive(Clone, Copy)]
+struct EventPositions<'a> {
+    records: &'a [u8],
+    positions: &'a [u16],
+    ghost kept: { Positions (events_of records.now) positions.now },
 }
 
-// The event of this task at this position.
-fn at_position(records: &[u8], positions: &[u16], task: u16, at: u16) -> Found
-    requires { Positions (events_of records.now) positions.now }
-    ensures { (result ≡ at_position (events_of records.now) task at) × Below (length records.now / 4) result }
-{
-    let mut i = records.len() / 4;
-    while 0 < i {
-        i -= 1;
-        if is_at(records, positions, i, task, at) {
-            return Found::At(i);
+impl EventPositions<'_> {
+    // Whether event e is this task's, at this position.
+    #[tactic(auto, using(events::proofs::Laws::events_length))]
+    fn is_at(&self, e: usize, task: u16, at: u16) -> bool
+        requires { 4 * e + 3 < length self.now.records.now }
+        ensures { result ≡ (of_task task (event_in (events_of self.now.records.now) e) && eqb (position (events_of self.now.records.now) e) at) }
+    {
+        let v = events::event_at(self.records, e);
+        (v.task as u16 == task) & (self.positions[e] == at)
+    }
+
+    // The event of this task at this position.
+    #[tactic(auto, using(events::proofs::Laws::events_length, events::proofs::Laws::last_none, events::proofs::Laws::last_lower), unfolding(model::specs::Together::at_position))]
+    fn at_position(&self, task: u16, at: u16) -> Option<usize>
+        ensures { (result ≡ at_position (events_of self.now.records.now) task at) × Below (length self.now.records.now / 4) result }
+    {
+        let n = self.records.len() / 4;
+        for i in (0..n).rev() {
+            if self.is_at(i, task, at) {
+                return Some(i);
+            }
         }
-    }
-    Found::Nothing
-}
-
-// Whether something was found.
-fn is_found(found: Found) -> bool
-    ensures { result ≡ is_found found }
-{
-    match found {
-        Found::At(_) => true,
-        Found::Nothing => false,
+        None
     }
 }
 
-// Whether s is a stretch of these records. Its task has the last position exactly where an event is found there.
-fn is_stretch(records: &[u8], counts: Counts, positions: &[u16], s: Stretch) -> bool
-    requires { Positions (events_of records.now) positions.now }
-    ensures { result ≡ is_stretch (recording_by records.now counts []) s }
+// Whether s is a stretch of this recording. Its task has the last position exactly where an event is found there.
+fn is_stretch(ready: &ReadyEvents, s: Stretch) -> bool
+    ensures { result ≡ is_stretch (recording_of ready.now) s }
 {
-    let last = at_position(records, positions, s.task, s.last);
-    let found = is_found(last);
-    (s.task < counts.tasks) & (1 <= s.first) & (s.first <= s.last) & found
+    let events = EventPositions {
+        records: ready.records,
+        positions: ready.positions,
+    };
+    let last = events.at_position(s.task, s.last);
+    (s.task < ready.counts.tasks) & (1 <= s.first) & (s.first <= s.last) & last.is_some()
 }
 
 // Whether two stretches are of one task and have a position in common.
+#[tactic(auto, unfolding(crate::specs::Stretches::overlap))]
 fn overlap(one: Stretch, other: Stretch) -> bool
     ensures { result ≡ overlap one other }
 {
@@ -102,67 +113,72 @@ fn overlap(one: Stretch, other: Stretch) -> bool
 }
 
 // Whether these are two stretches that do not overlap.
-fn two_stretches(
-    records: &[u8],
-    counts: Counts,
-    positions: &[u16],
-    one: Stretch,
-    other: Stretch,
-) -> bool
-    requires { Positions (events_of records.now) positions.now }
-    ensures { result ≡ two_stretches (recording_by records.now counts []) one other }
+#[tactic(auto, unfolding(crate::specs::Stretches::two_stretches))]
+fn two_stretches(ready: &ReadyEvents, one: Stretch, other: Stretch) -> bool
+    ensures { result ≡ two_stretches (recording_of ready.now) one other }
 {
-    let a = is_stretch(records, counts, positions, one);
-    let b = is_stretch(records, counts, positions, other);
+    let a = is_stretch(ready, one);
+    let b = is_stretch(ready, other);
     let c = overlap(one, other);
     a & b & !c
 }
 
 // Whether the vectors order the last event of the one stretch before the first of the other.
-fn ends_ordered(
-    records: &[u8],
-    counts: Counts,
-    positions: &[u16],
-    v: &[u16],
-    one: Stretch,
-    other: Stretch,
-) -> bool
-    requires { Placed records.now counts positions.now × Fitting records.now counts v.now }
-    ensures { result ≡ ends_ordered (events_of records.now) (vectors_in records.now counts v.now) one other }
+#[tactic(auto, unfolding(crate::specs::Lent::ends_ordered))]
+fn ends_ordered(vectors: &EventVectors, one: Stretch, other: Stretch) -> bool
+    ensures { result ≡ ends_ordered (events_of vectors.now.records.now) (vectors_of vectors.now) one other }
 {
-    let last = at_position(records, positions, one.task, one.last);
-    let first = at_position(records, positions, other.task, other.first);
-    match last {
-        Found::At(a) => match first {
-            Found::At(b) => passes::ordered(records, counts, positions, v, a, b),
-            Found::Nothing => false,
-        },
-        Found::Nothing => false,
-    }
+    let events = EventPositions {
+        records: vectors.records,
+        positions: vectors.positions,
+    };
+    let Some(last) = events.at_position(one.task, one.last) else {
+        return false;
+    };
+    let Some(first) = events.at_position(other.task, other.first) else {
+        return false;
+    };
+    vectors.ordered(last, first)
 }
 
 // First, second or neither, by the ends of the two stretches.
-fn lead_by_ends(
-    records: &[u8],
-    counts: Counts,
-    positions: &[u16],
-    v: &[u16],
-    one: Stretch,
-    other: Stretch,
-) -> Lead
-    requires { Placed records.now counts positions.now × Fitting records.now counts v.now }
-    ensures { result ≡ lead_by_ends (events_of records.now) (vectors_in records.now counts v.now) one other }
+fn lead_by_ends(vectors: &EventVectors, one: Stretch, other: Stretch) -> Lead
+    ensures { result ≡ lead_by_ends (events_of vectors.now.records.now) (vectors_of vectors.now) one other }
 {
-    if ends_ordered(records, counts, positions, v, one, other) {
+    if ends_ordered(vectors, one, other) {
         return Lead::First;
     }
-    if ends_ordered(records, counts, positions, v, other, one) {
+    if ends_ordered(vectors, other, one) {
         return Lead::Second;
     }
     Lead::Neither
 }
 
+// Compares two stretches of a recording, with the checks of 17 and then 9.
+#[tactic(auto, unfolding(crate::specs::Stretches::stretch_check))]
+fn compare_ready(
+    ready: &ReadyEvents,
+    one: Stretch,
+    other: Stretch,
+    budget: u32,
+    work: &mut [u16],
+) -> Result<Lead, Refusal>
+    ensures value { result ≡ compared_by (recording_of ready.now) one other budget (stretch_check (recording_of ready.now) one other work.old) }
+    ensures work_after { work.new ≡ after (stretch_check (recording_of ready.now) one other work.old) (λ _. filled (recording_of ready.now) budget work.old) work.old }
+{
+    if !two_stretches(ready, one, other) {
+        return Err(Refusal::Stretch);
+    }
+    if !work::work_fits(ready.records, ready.counts, work) {
+        return Err(Refusal::Work);
+    }
+    ready.fill(budget, work);
+    let safe = ready.safe(work);
+    Ok(lead_by_ends(&safe, one, other))
+}
+
 // Compares two stretches of a file that reading accepts with this trailer.
+#[tactic(auto, using(work::proofs::Accepted::levels_inside))]
 fn compare_read(
     file: &[u8],
     trailer: Trailer,
@@ -170,33 +186,34 @@ fn compare_read(
     other: Stretch,
     budget: u32,
     work: &mut [u16],
-) -> Compared
-    requires { reading_of file.now ≡ Reading.Accepted trailer }
-    ensures { ComparedAs file.now one other budget work.old result work.new }
+) -> Result<Lead, Refusal>
+    requires { reading_of file.now ≡ Ok trailer }
+    ensures value { result ≡ compared_of file.now one other budget work.old }
+    ensures work_after { work.new ≡ work_after_comparing file.now one other budget work.old }
 {
-    let records = events::records_of(file, trailer);
-    let counts = trailer.counts;
-    let levels = events::levels_of(file, trailer);
-    let positions = events::positions(records);
-    if !two_stretches(records, counts, &positions, one, other) {
-        return Compared::Refused(Refusal::Stretch);
-    }
-    if !work::work_fits(records, counts, work) {
-        return Compared::Refused(Refusal::Work);
-    }
-    work::fill(records, counts, levels, &positions, budget, work);
-    let safe = work::safe_part(records, counts, work);
-    Compared::Leads(lead_by_ends(records, counts, &positions, safe, one, other))
+    let parts = Parts::of(file, trailer);
+    let positions = events::positions(parts.records);
+    let ready = ReadyEvents {
+        records: parts.records,
+        counts: parts.counts,
+        levels: parts.levels,
+        positions: &positions,
+    };
+    compare_ready(&ready, one, other, budget, work)
 }
 
 // Tells which of two stretches of a recording file is before the other, with a budget of passes. The work numbers are left as after
 // analysing; a refusal leaves them as they were.
-pub fn compare(file: &[u8], one: Stretch, other: Stretch, budget: u32, work: &mut [u16]) -> Compared
+pub fn compare(
+    file: &[u8],
+    one: Stretch,
+    other: Stretch,
+    budget: u32,
+    work: &mut [u16],
+) -> Result<Lead, Refusal>
     ensures value { result ≡ compared_of file.now one other budget work.old }
     ensures work_after { work.new ≡ work_after_comparing file.now one other budget work.old }
 {
-    match recording::read(file) {
-        Reading::Accepted(trailer) => compare_read(file, trailer, one, other, budget, work),
-        Reading::Refused(r) => Compared::Refused(r),
-    }
+    let trailer = recording::read(file)?;
+    compare_read(file, trailer, one, other, budget, work)
 }

@@ -12,8 +12,8 @@ use lib.Seq.{ext_get_or, drop-append-add, drop-drop}
 use Rattle.model.specs.declared.Event.{Event}
 use Rattle.model.specs.declared.Counts.{Counts}
 use Rattle.model.specs.Numbers.{flat_map}
-use Rattle.model.specs.Recording.{Recording, size, event_in}
-use Rattle.model.specs.File.{events_of, recording_by}
+use Rattle.model.specs.Recording.{Recording, size}
+use Rattle.model.specs.File.{recording_by}
 use Rattle.model.specs.Passes.{budget_of}
 use Rattle.model.specs.Recorded.{recorded}
 use Rattle.model.specs.Pairs.{mark, Entry, listed, entry_numbers, entry_at}
@@ -25,7 +25,7 @@ use Rattle.model.proofs.Lists.{list_of-length, list_of_at}
 use Rattle.model.proofs.Promise.{entry_inside}
 use Rattle.model.proofs.Twins.{Twin}
 use Rattle.model.proofs.JointMarks.{entry_mark, twin_mark}
-use Rattle.passes.specs.Lent.{Records}
+use Rattle.alike.specs.Alike.{Counterparts}
 use Rattle.pairs.specs.Lent.{WrittenList}
 use Rattle.together.specs.Naming.{entries_at, named}
 
@@ -123,7 +123,7 @@ pub named_levels : (l : List Event) (s : List ℕ) (c : Counts) (v : List ℕ) (
 unfolding named mark
 named_levels l s c v R kept = refl
 
--- records of as many tasks by other counts
-pub records_by : (s : List ℕ) (c d : Counts) → c.tasks ≡ d.tasks → Records s c → Records s d
-records_by s c d e r =
-    record { whole = r.whole; few = r.few; named = λ a l. subst (λ (k : ℕ). (event_in (events_of s) a).task < k) e (r.named a l); waits = r.waits; flag_waits = r.flag_waits; joined = r.joined }
+-- what is kept for each event of the first recording is its twin
+pub twins : (E F : Recording) (kept : List ℕ) → Counterparts E.events F.events kept → (e : ℕ) → e < size E → Twin E.events F.events e (get_or kept e 0)
+twins E F kept k e l =
+    record { left = l; right = k.inside e l; same = sym (k.same e l); place = sym (k.placed e l) }

@@ -6,20 +6,28 @@ use mathlib.Core.List.{List, [], ◌∷◌, ◌++◌, append_assoc}
 use native.Mathlib.Numerals.{add-one}
 use native.Mathlib.Omega.{arith}
 use lib.ListN.{length, get_or, take, drop, length-append}
-use lib.Seq.{sets, sets-eq, length-sets, take-append-le, take-take, drop_at, length-take-le, get_or-take}
+use lib.Seq.{sets, sets-eq, length-sets, take-append-le, take-take, drop_at, drop-drop, length-take-le, get_or-take}
+use borrow.Rule.Slice.PartMut.{put_mid}
 use Rattle.model.specs.declared.Event.{Event}
 use Rattle.model.specs.Numbers.{flat_map, list_from}
 use Rattle.model.specs.Recording.{Recording, event_in}
 use Rattle.model.specs.Vectors.{Vectors, position}
 use Rattle.model.specs.Pairs.{Entry, entry_at}
-use Rattle.together.specs.Naming.{entries_at, either_mark, named}
+use Rattle.together.specs.Naming.{either_mark, named}
 
--- the numbers that are stored are those of the entry
-pub stored_named : (l : List Event) (F : Recording) (R : Vectors) (kept : List ℕ) (a b m : ℕ) (out : List ℕ) (at : ℕ) (v w : Event) (p q k : ℕ)
+-- numbers copied over a part are stored one after the other
+copied : (v us : List ℕ) (at n : ℕ) → n ≡ length us → at + length us ≤ length v → put_mid at n v us ≡ sets v at us
+copied v us at n e h =
+    rw (e, drop-drop (length us) at v) (sym (append_assoc (take at v) us (drop (at + length us) v)) ∙ sym (sets-eq us v at h))
+
+-- the numbers that are copied are those of the entry
+pub stored_named : (l : List Event) (F : Recording) (R : Vectors) (kept : List ℕ) (a b m : ℕ) (out us : List ℕ) (at n : ℕ) (v w : Event) (p q k : ℕ)
+    → us ≡ v.task ∷ p ∷ w.task ∷ q ∷ k ∷ [] → n ≡ 5 → at + 5 ≤ length out
     → v ≡ event_in l a → w ≡ event_in l b → p ≡ position l a → q ≡ position l b → k ≡ either_mark F R kept a b m
-    → sets out at (v.task ∷ p ∷ w.task ∷ q ∷ k ∷ []) ≡ sets out at (named l F R kept (record { first = a; second = b; mark = m }))
+    → put_mid at n out us ≡ sets out at (named l F R kept (record { first = a; second = b; mark = m }))
 unfolding named
-stored_named l F R kept a b m out at v w p q k e f g h j = rw (e, f, g, h, j)
+stored_named l F R kept a b m out us at n v w p q k z e h f g i j o =
+    rw (z, f, g, i, j, o) (copied out (named l F R kept (record { first = a; second = b; mark = m })) at n e h)
 
 flat_first : (f : Entry → List ℕ) (g : ℕ → Entry) (i n : ℕ) → flat_map f (list_from g i (suc n)) ≡ f (g i) ++ flat_map f (list_from g (i + 1) n)
 unfolding flat_map list_from
@@ -94,6 +102,3 @@ module _ (f : Entry → List ℕ) (n : ℕ) (old : List ℕ) where
       let u = rw e at t in
       let s = q ∙ ap (λ (p : Entry). sets list (5 * i) (f p)) (same_entry (i + 1) i list u (omega arith)) in
       rw s (turned_next i list u (omega arith) (five (entry_at old i)) room)
-
-  pub all_turned : (list : List ℕ) → Turned f n old 0 list → list ≡ flat_map f (entries_at old n) ++ drop (5 * n) old
-  all_turned list t = let z : n - 0 ≡ n = omega arith in rw z at t.behind

@@ -1,18 +1,15 @@
 -- Entries of three numbers, event, event and mark, turned into entries of five by name.
 -- Assumes nothing.
-use Rattle.std.specs.Prelude.{ℕ, ◌*◌, ◌≤◌, ◌<◌, max, ◌≡◌, List, [], ◌∷◌, ◌++◌, length, get_or, drop}
+use Rattle.std.specs.Prelude.{ℕ, ◌*◌, max, ◌≡◌, List, [], ◌∷◌, ◌++◌, get_or, drop}
 use Rattle.model.specs.declared.Event.{Event}
 use Rattle.model.specs.declared.Counts.{Counts}
 use Rattle.model.specs.Numbers.{list_of, flat_map}
 use Rattle.model.specs.Recording.{Recording, event_in}
 use Rattle.model.specs.File.{events_of, recording_by}
-use Rattle.model.specs.Reading.{most_events}
 use Rattle.model.specs.Vectors.{Vectors, position}
 use Rattle.model.specs.Pairs.{mark, Entry, entry_at}
-use Rattle.events.specs.Kept.{Positions}
-use Rattle.model.specs.Together.{own_records}
-use Rattle.passes.specs.Lent.{vectors_in, Fitting, Numbered, Records, Placed}
-use Rattle.work.specs.Lent.{Ready, Roomy, recorded_in}
+use Rattle.passes.specs.Lent.{vectors_in, Numbered}
+use Rattle.work.specs.Lent.{recorded_in}
 use Rattle.alike.specs.Alike.{Counterparts}
 
 -- the first n entries of a list of such numbers
@@ -30,24 +27,6 @@ named l F R kept p =
     (event_in l p.first).task ∷ position l p.first ∷ (event_in l p.second).task ∷ position l p.second
     ∷ either_mark F R kept p.first p.second p.mark ∷ []
 
--- the records s of the second recording, the positions p of their events, and its recorded vectors r
-pub record Second (s : List ℕ) (c : Counts) (p r : List ℕ) : Type 0 where
-  pub placed : Placed s c p
-  pub recorded : Fitting s c r
-
--- an event of it is kept for event e of the first
-pub record InSecond (s kept : List ℕ) (e : ℕ) : Type 0 where
-  pub room : e < most_events
-  pub inside : Numbered s (get_or kept e 0)
-
--- the records s of the first recording with their positions p, those of the second, and what is kept for each event of the first
-pub record Naming (s p s' : List ℕ) (c : Counts) (p' r kept : List ℕ) : Type 0 where
-  pub whole : length s ≡ 4 * length (events_of s)
-  pub few : length (events_of s) ≤ most_events
-  pub placed : Positions (events_of s) p
-  pub second : Second s' c p' r
-  pub held : (e : ℕ) → Numbered s e → InSecond s' kept e
-
 -- naming an entry, with these lent
 abbrev pub named_by : List ℕ → List ℕ → Counts → List ℕ → List ℕ → Entry → List ℕ
 named_by s s' c r kept = named (events_of s) (recording_by s' c []) (vectors_in s' c r) kept
@@ -55,16 +34,6 @@ named_by s s' c r kept = named (events_of s) (recording_by s' c []) (vectors_in 
 -- both events of an entry are of the first recording
 abbrev pub OfFirst : List ℕ → Entry → Type 0
 OfFirst s p = Numbered s p.first × Numbered s p.second
-
--- two recordings of the same work: the records s of the first and the positions p of their events, those of the second, with its
--- counts c, which name as many tasks in both, and its work numbers w
-pub record JobLent (s p s' : List ℕ) (c : Counts) (p' w : List ℕ) : Type 0 where
-  pub first : Records s c
-  pub placed : Positions (events_of s) p
-  pub second : Ready s' c
-  pub there : Positions (events_of s') p'
-  pub roomy : Roomy s' c w
-  pub same : (t : ℕ) → own_records (events_of s) t ≡ own_records (events_of s') t
 
 -- the n entries of `old` are named, with some event of the second recording kept for each of the first that has its task and
 -- position; beyond them nothing changes

@@ -1,97 +1,84 @@
 // Recordings that rows describe: counts, level bytes, and events in the notation of document 01.
-use rows::bytes::{byte, part_of, product, put_byte, put_bytes};
-use rows::records::{Shape, put_trailer};
-use rows::text::{digit, section, short, value, word};
-use std::num::{wrapping_add_usize, wrapping_sub_usize};
+use rows::bytes::{Bytes, at, part_of, product};
+use rows::records::{Kind, Shape, put_trailer};
+use rows::text::{digit, is_space, is_word, section, value};
 
 // Counts: tasks, semaphores, flags, cells, edition.
 pub(crate) fn shape_of(s: &[u8]) -> Shape {
     Shape {
         preamble: 0,
         events: 0,
-        tasks: short(s, 0),
-        semaphores: short(s, 1),
-        flags: short(s, 2),
-        cells: short(s, 3),
-        edition: short(s, 4),
+        tasks: value(s, 0),
+        semaphores: value(s, 1),
+        flags: value(s, 2),
+        cells: value(s, 3),
+        edition: value(s, 4),
     }
 }
 
-// Puts the numbers of a section at a place, a byte each, and answers where they end; '-' stands for
-// none.
-pub(crate) fn put_levels(out: &mut [u8], at: usize, s: &[u8]) -> usize {
-    let mut end = at;
-    for k in 0..130u16 {
-        let w = word(s, k);
-        if w.len() == 0 || byte(w, 0) == b'-' {
-            return end;
+// Puts the numbers of a section, a byte each; '-' stands for none.
+pub(crate) fn put_levels<const N: usize>(out: &mut Bytes<N>, s: &[u8]) {
+    for word in s.split(is_space).filter(is_word).take(130) {
+        if word.first() == Some(&b'-') {
+            return;
         }
-        put_byte(out, end, (value(s, k) % 256) as u8);
-        end = wrapping_add_usize(end, 1);
+        out.push(value(word, 0));
     }
-    end
 }
 
 // The kind of an event by its letter: O is a post, G a flag wait, r and w are accesses by a single
 // instruction; x, y and z are no kinds.
 fn kind_of(letter: u8) -> u8 {
-    match letter {
-        b'S' => 1,
-        b'P' => 2,
-        b'F' => 3,
-        b'J' => 4,
-        b'R' => 5,
-        b'W' => 6,
-        b'O' => 7,
-        b'G' => 8,
-        b'r' => 9,
-        b'w' => 10,
-        b'y' => 11,
-        b'z' => 255,
-        _ => 0,
-    }
+    let kind = match letter {
+        b'S' => Kind::Signal,
+        b'P' => Kind::Wait,
+        b'F' => Kind::Fork,
+        b'J' => Kind::Join,
+        b'R' => Kind::Read,
+        b'W' => Kind::Write,
+        b'O' => Kind::Post,
+        b'G' => Kind::FlagWait,
+        b'r' => Kind::SingleRead,
+        b'w' => Kind::SingleWrite,
+        b'y' => return 11,
+        b'z' => return 255,
+        _ => return 0,
+    };
+    kind as u8
 }
 
-// Puts the bytes that stand so many before a place again, so many of them, and answers where they end.
-fn put_again(file: &mut [u8], at: usize, back: usize, n: usize) -> usize {
-    let mut end = at;
+// Puts the bytes that stand so many before the end again, so many of them.
+fn put_again<const N: usize>(file: &mut Bytes<N>, back: usize, n: usize) {
     for i in 0..n {
-        let v = byte(file, wrapping_sub_usize(end, back));
-        put_byte(file, end, v);
-        end = wrapping_add_usize(end, 1);
+        let from = file.length.wrapping_sub(back);
+        file.push(at(file.written(), from));
     }
-    end
 }
 
 // Puts one event, its task, a letter and its object; or, as 2*9, the last two events nine times more.
-fn put_event(file: &mut [u8], at: usize, w: &[u8]) -> usize {
-    if byte(w, 1) == b'*' {
+fn put_event<const N: usize>(file: &mut Bytes<N>, w: &[u8]) {
+    if at(w, 1) == b'*' {
         let back = digit(w, 0) as u16 * 4;
-        let times = short(part_of(w, 2, w.len()), 0);
-        return put_again(file, at, back as usize, product(back, times));
+        let times = value(part_of(w, 2, w.len()), 0);
+        return put_again(file, back as usize, product(back, times));
     }
-    let event = [digit(w, 0), kind_of(byte(w, 1)), digit(w, 2), 0];
-    put_bytes(file, at, &event)
+    file.extend(&[digit(w, 0), kind_of(at(w, 1)), digit(w, 2), 0]);
 }
 
-// Puts events in the notation of document 01, and answers where they end.
-pub(crate) fn put_events(file: &mut [u8], s: &[u8]) -> usize {
-    let mut at = 0;
-    for k in 0..99u16 {
-        let w = word(s, k);
-        if w.len() == 0 {
-            return at;
-        }
-        at = put_event(file, at, w);
+// Puts events in the notation of document 01.
+pub(crate) fn put_events<const N: usize>(file: &mut Bytes<N>, s: &[u8]) {
+    for word in s.split(is_space).filter(is_word).take(99) {
+        put_event(file, word);
     }
-    at
 }
 
-// Puts the recording of three sections from section k on: counts, level bytes, events; its length.
-pub(crate) fn put_recording(row: &[u8], k: u16, file: &mut [u8]) -> usize {
-    let i = k % 16;
-    let at = put_events(file, section(row, i + 2));
-    let end = put_levels(file, at, section(row, i + 1));
-    let n = (at / 4 % 65536) as u32;
-    put_trailer(file, end, 0, n, shape_of(section(row, i)))
+// The recording of three sections from section k on: counts, level bytes, events.
+pub(crate) fn recording_in<const N: usize>(row: &[u8], k: u8) -> Bytes<N> {
+    let k = k as usize;
+    let mut file = Bytes::new();
+    put_events(&mut file, section(row, k + 2));
+    let n = (file.length / 4 % 65536) as u32;
+    put_levels(&mut file, section(row, k + 1));
+    put_trailer(&mut file, 0, n, shape_of(section(row, k)));
+    file
 }

@@ -1,12 +1,12 @@
 -- A whole walk yields each record once, in order, then the end. Assumes nothing.
 use mathlib.Core.Path.{◌≡◌, refl}
+use Rattle.std.specs.Prelude.{Some, None}
 use mathlib.Core.List.{List}
 use Prim.Native.Nat.{ℕ, zero, suc, ◌+◌, ◌/◌, ◌<◌, ◌≤◌}
 use native.Mathlib.Numerals.{add-one}
 use native.Mathlib.Omega.{arith}
 use borrow.Author.Tests.{lt-ltb, le-ltb}
 use lib.ListN.{length}
-use Rattle.model.specs.declared.Item.{Item}
 use Rattle.model.specs.File.{event_at}
 use Rattle.model.specs.Walking.{step_at}
 use Rattle.events.proofs.Laws.{event_at_lem}
@@ -14,11 +14,11 @@ use Rattle.recording.proofs.Files.{no_records}
 use Rattle.walk.specs.Walked.{after, Walked}
 
 module _ (s : List ℕ) where
-  step_in : (n : ℕ) → n < length s / 4 → step_at s n ≡ record { item = Item.Event (event_at s n); next = n + 1 }
+  pub step_in : (n : ℕ) → n < length s / 4 → step_at s n ≡ record { item = Some (event_at s n); next = n + 1 }
   unfolding step_at
   step_in n h = rw (lt-ltb n (length s / 4) h)
 
-  ends : (n : ℕ) → length s / 4 ≤ n → step_at s n ≡ record { item = Item.End; next = n }
+  pub ends : (n : ℕ) → length s / 4 ≤ n → step_at s n ≡ record { item = None; next = n }
   unfolding step_at
   ends n h = rw (le-ltb n (length s / 4) h)
 

@@ -1,6 +1,7 @@
 -- The records and the level bytes of a file that reading accepts.
 -- Assumes nothing.
 use mathlib.Core.Path.{◌≡◌, sym, ap, ap₂, subst, ◌∙◌}
+use Rattle.std.specs.Prelude.{Ok}
 use mathlib.Core.List.{List}
 use Prim.Native.Nat.{ℕ, ◌+◌, ◌*◌, ◌/◌, ◌≤◌, ◌<◌}
 use native.Mathlib.Omega.{arith}
@@ -8,8 +9,6 @@ use lib.Dec.{eqb}
 use lib.ListN.{length, drop, length-take}
 use Rattle.model.specs.declared.Counts.{Counts}
 use Rattle.model.specs.declared.Trailer.{Trailer}
-use Rattle.model.specs.declared.Check.{Check}
-use Rattle.model.specs.declared.Reading.{Reading}
 use Rattle.model.specs.Recording.{Recording, size, kind_of, object_of, names_of, class_of, Accepted, wait, flag_wait}
 use Rattle.model.specs.File.{trailer_of, record_bytes, start_count, level_count, level_bytes, recording_by, recording_of}
 use Rattle.model.specs.Reading.{file_check, reading_of, most_semaphores, most_flags, most_events}
@@ -42,8 +41,8 @@ ready_budget s c v r =
     let n : length s / 4 ≡ size E = omega (arith, r.records.whole) in
     rw (n, le-leb (size E) most_events r.records.few)
 
-module _ (f : List ℕ) (h : Trailer) (q : reading_of f ≡ Reading.Accepted h) where
-  pub passed : file_check f ≡ Check.Passed
+module _ (f : List ℕ) (h : Trailer) (q : reading_of f ≡ Ok h) where
+  pub passed : file_check f ≡ Ok tt
   passed = (accepted_is f h q).1
 
   trailer : h ≡ trailer_of f
@@ -95,3 +94,13 @@ module _ (f : List ℕ) (h : Trailer) (q : reading_of f ≡ Reading.Accepted h) 
     -- by these records, the budget of a run that settles is the recording's
     pub the_budget : budget_in s ≡ budget_of (recording_of f)
     the_budget = ready_budget s h.counts v ready ∙ ap (λ (F : Recording). budget_of F) the_recording
+
+-- ---- the parts of such a file, the counts among them
+
+module _ (f : List ℕ) (h : Trailer) (q : reading_of f ≡ Ok h) (s : List ℕ) (e : s ≡ record_bytes f h) (c : Counts) (d : c ≡ h.counts)
+    (v : List ℕ) (g : v ≡ level_bytes f h) where
+  pub parts_recording : recording_by s c v ≡ recording_of f
+  parts_recording = rw d (the_recording f h q s e v g)
+
+  pub parts_ready : Ready s c
+  parts_ready = rw d (ready f h q s e v g)

@@ -1,17 +1,16 @@
 -- Work numbers lent in two parts, the first n numbers and those behind them.
 -- Assumes nothing.
-use mathlib.Core.Path.{◌≡◌, refl, sym, ap, ap₂, ◌∙◌}
+use mathlib.Core.Path.{◌≡◌, sym, ap, ap₂, ◌∙◌}
 use mathlib.Core.Bool.{true}
 use mathlib.Core.List.{List, [], ◌++◌, append-nil, append_assoc}
-use Prim.Native.Nat.{ℕ, ◌+◌, ◌-◌, ◌*◌, ◌/◌, ◌≤◌}
-use native.Mathlib.Nat.{mul-le-mul_right}
+use Prim.Native.Nat.{ℕ, ◌+◌, ◌-◌, ◌*◌, ◌≤◌}
 use native.Mathlib.Omega.{arith}
 use lib.ListN.{length, take, drop, length-append, length-drop, drop_of_length-le}
-use lib.Seq.{take_all, take_at, drop_at, drop-drop, length-take-le}
+use lib.Seq.{take_all, take_at, drop_at, drop-drop}
 use borrow.Rule.Slice.PartMut.{mid_of, put_mid}
 use Rattle.model.specs.declared.Counts.{Counts}
 use Rattle.model.specs.Recording.{Recording, size, tasks}
-use Rattle.model.specs.File.{events_of, recording_by}
+use Rattle.model.specs.File.{recording_by}
 use Rattle.model.specs.Vectors.{flat}
 use Rattle.model.specs.Passes.{safe_vectors}
 use Rattle.model.specs.Recorded.{recorded}
@@ -20,32 +19,11 @@ use Rattle.model.proofs.Tests.{leb-true}
 use Rattle.model.proofs.Climb.{run_shaped}
 use Rattle.model.proofs.Recorded.{recorded_shaped}
 use Rattle.vectors.proofs.Chunks.{flat_length, chunks_flat}
-use Rattle.passes.specs.Lent.{vectors_in}
-use Rattle.work.specs.Lent.{Ready, numbers, Roomy, safe_in, recorded_in}
-
-pub numbers_by : (s : List ℕ) (c : Counts) → Ready s c → (length s / 4 * c.tasks ≡ numbers s c) × (length s / 4 * c.tasks ≤ 16384)
-numbers_by s c r =
-    let e : length s / 4 ≡ length (events_of s) = omega (arith, r.records.whole) in
-    rw e (refl, omega (arith, mul-le-mul_right c.tasks r.records.few, r.tasks))
+use Rattle.work.specs.Lent.{numbers, Roomy, safe_in, recorded_in}
 
 -- there is room where the test says so
 pub roomy : (s : List ℕ) (c : Counts) (w : List ℕ) → work_fits (recording_by s c []) w ≡ true → Roomy s c w
 roomy s c w p = leb-true (2 * numbers s c) (length w) p
-
--- ---- two parts to read
-
-module _ (w : List ℕ) (n : ℕ) (h : 2 * n ≤ length w) where
-  pub first_part : length (take n w) ≡ n
-  first_part = length-take-le n w (omega arith)
-
-  pub second_part : length (take (2 * n - n) (drop n w)) ≡ n
-  second_part =
-      let k : 2 * n - n ≡ n = omega arith in
-      rw k (length-take-le n (drop n w) (omega (arith, length-drop n w)))
-
--- the second are the recorded vectors
-pub second_vectors : (s : List ℕ) (c : Counts) (w : List ℕ) (n : ℕ) → n ≡ numbers s c → vectors_in s c (take (2 * n - n) (drop n w)) ≡ recorded_in s c w
-second_vectors s c w n e = let k : 2 * n - n ≡ n = omega arith in rw (k, e)
 
 -- ---- two parts to write
 
@@ -65,10 +43,6 @@ module _ (n : ℕ) (w p : List ℕ) (k : length p ≡ n) (h : 2 * n ≤ length w
 
   the_rest : mid_of n (length (p ++ drop n w) - n) (p ++ drop n w) ≡ drop n w
   the_rest = mid_tail n (p ++ drop n w) (omega (arith, long)) ∙ drop_at p (drop n w) n k
-
-  -- there is room for as many behind them
-  pub rest_room : n ≤ length (mid_of n (length (p ++ drop n w) - n) (p ++ drop n w))
-  rest_room = omega (arith, ap length the_rest, length-drop n w)
 
   -- then the rest has become q
   two_parts : (q z : List ℕ) → q ≡ z ++ drop n (mid_of n (length (p ++ drop n w) - n) (p ++ drop n w))

@@ -1,24 +1,32 @@
 // The lent work memory of a recording: its size, what fills it (the safe vectors of a run, then the recorded ones), the budget of
 // a run that settles, and what is read off the memory once it is filled. A crate of its own, since more than one interface crate
-// fills such a memory, and these functions require what those have shown.
+// fills such a memory, and ReadyEvents holds what those have shown.
 #![tactic(auto)]
 
 ghost use Rattle.std.specs.Prelude.{◌≡◌, [], ◌≤◌};
 ghost use Rattle.model.specs.Refusals.{after};
-ghost use Rattle.model.specs.File.{recording_by, events_of};
+ghost use Rattle.model.specs.File.{recording_by};
 ghost use Rattle.model.specs.Passes.{passes_made, is_settled};
 ghost use Rattle.model.specs.Pairs.{entries};
 ghost use Rattle.model.specs.Analysing.{work_fits, filled};
 ghost use Rattle.model.specs.Question.{relation_by, two_events, asked_check};
 ghost use Rattle.passes.specs.Lent.{vectors_in, Fitting, Numbered};
+ghost use Rattle.passes.specs.Lookups.{vectors_of};
 ghost use Rattle.pairs.specs.Lent.{Width, WrittenList};
-ghost use Rattle.events.specs.Kept.{Positions};
-ghost use Rattle.work.specs.Lent.{Ready, numbers, Roomy, safe_in, recorded_in, in_work, budget_in};
+ghost use Rattle.pairs.specs.Listing.{fits, pairs_of};
+ghost use Rattle.work.specs.Lent.{Ready, numbers, Roomy, safe_in, recorded_in, budget_in};
+ghost use Rattle.work.specs.Ready.{recording_of, Room, safe_of, recorded_of, by_work};
 
-use model::{Check, Counts, MOST_EVENTS, Refusal, Relation};
-use pairs::Listed;
+use model::{Counts, MOST_EVENTS, Refusal, Relation};
+use pairs::{NoRoom, PairVectors};
+use passes::{EventVectors, Lookups, Outcome};
+
+mod ready;
+
+pub use ready::ReadyEvents;
 
 // N × N + 1: enough for the passes to settle.
+#[tactic(auto, unfolding(crate::specs::Lent::budget_in))]
 pub fn budget_of(records: &[u8]) -> u32
     ensures { result ≡ budget_in records.now }
 {
@@ -47,79 +55,8 @@ pub fn work_fits(records: &[u8], counts: Counts, work: &[u16]) -> bool
     2 * numbers(records, counts) <= work.len()
 }
 
-// Whether a and b are two different events of these records.
-fn two_events(records: &[u8], counts: Counts, a: usize, b: usize) -> bool
-    requires { Ready records.now counts }
-    ensures { result ≡ two_events (recording_by records.now counts []) a b }
-{
-    let n = records.len() / 4;
-    (a < n) & (b < n) & (a != b)
-}
-
-// Fills the work numbers: the safe vectors of a run with this budget, then the recorded vectors.
-pub fn fill(
-    records: &[u8],
-    counts: Counts,
-    levels: &[u8],
-    positions: &[u16; MOST_EVENTS],
-    budget: u32,
-    work: &mut [u16],
-) -> passes::Outcome
-    requires { Ready records.now counts × Roomy records.now counts work.old × Positions (events_of records.now) positions.now }
-    ensures passes_value { (result.passes ≡ passes_made (recording_by records.now counts levels.now) budget) × (result.settled ≡ is_settled (recording_by records.now counts levels.now) budget) }
-    ensures work_after { work.new ≡ filled (recording_by records.now counts levels.now) budget work.old }
-{
-    let half = numbers(records, counts);
-    let sources = events::sources(records);
-    let chains = events::gather(records);
-    let made = passes::run(
-        records,
-        counts,
-        levels,
-        positions,
-        &sources,
-        &chains,
-        budget,
-        &mut work[..half],
-    );
-    recorded::record(
-        records,
-        counts,
-        levels,
-        positions,
-        &sources,
-        &chains,
-        &mut work[half..],
-    );
-    made
-}
-
-// The checks of a question about events a and b, 11 and then 9. Where they pass, the work numbers are filled.
-pub fn fill_asked(
-    records: &[u8],
-    counts: Counts,
-    levels: &[u8],
-    positions: &[u16; MOST_EVENTS],
-    a: usize,
-    b: usize,
-    budget: u32,
-    work: &mut [u16],
-) -> Check
-    requires { Ready records.now counts × Positions (events_of records.now) positions.now }
-    ensures value { result ≡ asked_check (recording_by records.now counts levels.now) a b work.old }
-    ensures work_after { work.new ≡ after result (λ _. filled (recording_by records.now counts levels.now) budget work.old) work.old }
-{
-    if !two_events(records, counts, a, b) {
-        return Check::Failed(Refusal::Event);
-    }
-    if !work_fits(records, counts, work) {
-        return Check::Failed(Refusal::Work);
-    }
-    fill(records, counts, levels, positions, budget, work);
-    Check::Passed
-}
-
-// The safe vectors in the work numbers, as numbers.
+// The safe vectors in the work numbers, as numbers. Two functions beside `pairs`, since docs/changes names them and neither asks for
+// positions.
 pub fn safe_part<'a>(records: &[u8], counts: Counts, work: &'a [u16]) -> &'a [u16]
     requires { Ready records.now counts × Roomy records.now counts work.now }
     ensures { (vectors_in records.now counts result.now ≡ safe_in records.now counts work.now) × Fitting records.now counts result.now }
@@ -138,37 +75,116 @@ pub fn recorded_part<'a>(records: &[u8], counts: Counts, work: &'a [u16]) -> &'a
     &work[half..stop]
 }
 
-// Lists the race pairs by the vectors in the work numbers, where the list has room for `width` numbers an entry.
-pub fn list_pairs(
-    records: &[u8],
-    counts: Counts,
-    positions: &[u16; MOST_EVENTS],
-    work: &[u16],
-    width: usize,
-    list: &mut [u16],
-) -> Listed
-    requires { Ready records.now counts × Roomy records.now counts work.now × Positions (events_of records.now) positions.now × Width width }
-    ensures { WrittenList width (in_work entries records.now counts work.now) list.old list.new result.fits result.pairs }
-{
-    let safe = safe_part(records, counts, work);
-    let recorded = recorded_part(records, counts, work);
-    pairs::list(records, counts, positions, safe, recorded, width, list)
-}
+impl<'a> ReadyEvents<'a> {
+    // Whether a and b are two different events of the recording.
+    fn two_events(&self, a: usize, b: usize) -> bool
+        ensures { result ≡ two_events (recording_of self.now) a b }
+    {
+        let n = self.records.len() / 4;
+        (a < n) & (b < n) & (a != b)
+    }
 
-// How events a and b stand to each other by the vectors in the work numbers.
-pub fn relate(
-    records: &[u8],
-    counts: Counts,
-    positions: &[u16; MOST_EVENTS],
-    work: &[u16],
-    a: usize,
-    b: usize,
-) -> Relation
-    requires ready { Ready records.now counts × Roomy records.now counts work.now × Positions (events_of records.now) positions.now }
-    requires numbered { Numbered records.now a × Numbered records.now b }
-    ensures { result ≡ in_work relation_by records.now counts work.now a b }
-{
-    let safe = safe_part(records, counts, work);
-    let recorded = recorded_part(records, counts, work);
-    pairs::relation(records, counts, positions, safe, recorded, a, b)
+    // Fills the work numbers: the safe vectors of a run with this budget, then the recorded vectors.
+    pub fn fill(&self, budget: u32, work: &mut [u16]) -> Outcome
+        requires { Room self.now work.old }
+        ensures passes_value { (result.passes ≡ passes_made (recording_of self.now) budget) × (result.settled ≡ is_settled (recording_of self.now) budget) }
+        ensures work_after { work.new ≡ filled (recording_of self.now) budget work.old }
+    {
+        let half = numbers(self.records, self.counts);
+        let sources = events::sources(self.records);
+        let chains = events::gather(self.records);
+        let look = Lookups {
+            records: self.records,
+            counts: self.counts,
+            levels: self.levels,
+            positions: self.positions,
+            sources: &sources,
+            chains: &chains,
+        };
+        let made = look.run(budget, &mut work[..half]);
+        recorded::record(&look, &mut work[half..]);
+        made
+    }
+
+    // The checks of a question about events a and b, 11 and then 9. Where they pass, the work numbers are filled.
+    #[tactic(auto, unfolding(model::specs::Question::asked_check))]
+    pub fn fill_asked(
+        &self,
+        a: usize,
+        b: usize,
+        budget: u32,
+        work: &mut [u16],
+    ) -> Result<(), Refusal>
+        ensures value { result ≡ asked_check (recording_of self.now) a b work.old }
+        ensures work_after { work.new ≡ after result (λ _. filled (recording_of self.now) budget work.old) work.old }
+    {
+        if !self.two_events(a, b) {
+            return Err(Refusal::Event);
+        }
+        if !work_fits(self.records, self.counts, work) {
+            return Err(Refusal::Work);
+        }
+        self.fill(budget, work);
+        Ok(())
+    }
+
+    // The events with their safe vectors, first in the work numbers, and their recorded ones behind them.
+    pub fn pairs<'v>(&self, work: &'v [u16]) -> PairVectors<'a, 'v>
+        requires { Room self.now work.now }
+        ensures records { result.records.now ≡ self.now.records.now }
+        ensures counts { result.counts ≡ self.now.counts }
+        ensures positions { result.positions.now ≡ self.now.positions.now }
+        ensures safe { vectors_in result.records.now result.counts result.safe.now ≡ safe_of self.now work.now }
+        ensures recorded { vectors_in result.records.now result.counts result.recorded.now ≡ recorded_of self.now work.now }
+    {
+        PairVectors {
+            records: self.records,
+            counts: self.counts,
+            positions: self.positions,
+            safe: safe_part(self.records, self.counts, work),
+            recorded: recorded_part(self.records, self.counts, work),
+        }
+    }
+
+    // The events with the safe vectors in the work numbers.
+    pub fn safe<'v>(&self, work: &'v [u16]) -> EventVectors<'a, 'v>
+        requires { Room self.now work.now }
+        ensures records { result.records.now ≡ self.now.records.now }
+        ensures counts { result.counts ≡ self.now.counts }
+        ensures positions { result.positions.now ≡ self.now.positions.now }
+        ensures vectors { vectors_of result ≡ safe_of self.now work.now }
+    {
+        let vectors = self.pairs(work);
+        vectors.by_safe()
+    }
+
+    // The events with the recorded vectors in the work numbers.
+    pub fn recorded<'v>(&self, work: &'v [u16]) -> EventVectors<'a, 'v>
+        requires { Room self.now work.now }
+        ensures records { result.records.now ≡ self.now.records.now }
+        ensures counts { result.counts ≡ self.now.counts }
+        ensures positions { result.positions.now ≡ self.now.positions.now }
+        ensures vectors { vectors_of result ≡ recorded_of self.now work.now }
+    {
+        let vectors = self.pairs(work);
+        vectors.by_recorded()
+    }
+
+    // Lists the race pairs by the vectors in the work numbers, where the list has room for `width` numbers an entry.
+    pub fn list_pairs(&self, work: &[u16], width: usize, list: &mut [u16]) -> Result<usize, NoRoom>
+        requires { Room self.now work.now × Width width }
+        ensures { WrittenList width (by_work entries self.now work.now) list.old list.new (fits result) (pairs_of result) }
+    {
+        let vectors = self.pairs(work);
+        vectors.list(width, list)
+    }
+
+    // How events a and b stand to each other by the vectors in the work numbers.
+    pub fn relate(&self, work: &[u16], a: usize, b: usize) -> Relation
+        requires { Room self.now work.now × Numbered self.now.records.now a × Numbered self.now.records.now b }
+        ensures { result ≡ by_work relation_by self.now work.now a b }
+    {
+        let vectors = self.pairs(work);
+        vectors.relation(a, b)
+    }
 }

@@ -1,13 +1,9 @@
--- `alike::same_levels` meets its contract. The invariant: the first i bytes say what all n say. The measure is i. Assumes nothing.
+-- `alike::same_levels` meets its contract. The invariant: the first i level bytes are the same. Assumes nothing.
 use mathlib.Core.Path.{◌≡◌}
-use Prim.Native.Nat.{◌≤◌}
+use mathlib.Core.Bool.{true}
 use Rattle.model.specs.Together.{same_levels}
 use Rattle.alike.proofs.same_levels.Given as goal
 
 abbrev pub invariant-loop-i : goal.invariant-loop-i
 invariant-loop-i l =
-    (l.i ≤ l.n) × (same_levels l.first l.second l.i ≡ same_levels l.first l.second l.n)
-
-abbrev pub decreases-loop-i : goal.decreases-loop-i
-decreases-loop-i l =
-    l.i
+    same_levels l.first l.second l.i ≡ true

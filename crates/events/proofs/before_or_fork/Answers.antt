@@ -1,12 +1,11 @@
 -- `events::before_or_fork` meets its contract. Assumes nothing.
 use mathlib.Core.Path.{◌≡◌, sym, ap, ◌∙◌}
-use Prim.Native.Nat.{◌*◌}
 use native.Mathlib.Omega.{arith}
 use Rattle.model.specs.Recording.{event_in}
 use Rattle.model.specs.File.{events_of}
 use Rattle.model.specs.Passes.{previous, fork_of}
 use Rattle.events.specs.Kept.{found_below}
-use Rattle.events.proofs.Laws.{events_length, task_at}
+use Rattle.events.proofs.Laws.{events_length}
 use Rattle.events.proofs.Kept.{task_searched, before_at, before_none, at_number, no_number}
 use Rattle.events.proofs.before_or_fork.Goals as goal
 use Rattle.events.proofs.before_or_fork.Goals.{After-task_before-before}
@@ -24,17 +23,6 @@ returns-then-before-lt-MOST_EVENTS c =
     (r.0, omega (arith, r.1, c.requires.records_len_bound))
 
 -- the task of an event is a byte
-pub overflow_cast-task : goal.overflow_cast-task
-overflow_cast-task c =
-    let r = c.args.records.now in
-    let e = c.args.e in
-    let h = c.requires.records_len_bound.1 in
-    omega (arith, c.requires.kept_tasks.0 e (omega (arith, events_length r)), task_at r e (omega arith), c.type_inv.records (4 * e))
-
-pub fork_of-requires : goal.fork_of-requires
-fork_of-requires c =
-    c.requires.kept_tasks.1
-
 pub returns : goal.returns
 returns c =
     let l = events_of c.args.records.now in

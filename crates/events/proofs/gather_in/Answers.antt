@@ -9,36 +9,21 @@ use Rattle.events.proofs.Laws.{events_length}
 use Rattle.events.proofs.Chains.{start, linked_next}
 use Rattle.events.proofs.gather_in.Goals as goal
 
-pub overflow_cast-none : goal.overflow_cast-none
-overflow_cast-none c =
-    omega (arith, c.requires.0.few)
-
 pub loop-i-init : goal.loop-i-init
 loop-i-init c =
-    (omega arith, start _ _ _ c.requires.1)
+    start _ _ _ c.requires.1
 
--- the event at hand is one of the records
 pub event_at-v-requires : goal.event_at-v-requires
 event_at-v-requires c =
     let k = c.loop-i in
     omega (arith, c.at_place.ensures, c.requires.0.numbered (k.i - 1) (omega arith), events_length c.args.records.now)
-
-pub link-requires : goal.link-requires
-link-requires c =
-    (c.requires.1, omega (arith, c.requires.0.few))
 
 pub loop-i-preserved : goal.loop-i-preserved
 loop-i-preserved c =
     let v = c.event_at-v in
     let a = c.at_place in
     let k = c.loop-i in
-    let e : k.i ≡ k.i - 1 + 1 = omega arith in (
-      omega arith,
-      rw c.link.ensures
-          (linked_next c.args.limit v.result _ _ _ _ (rw e at k.invariant.1) (λ x. ap (is_access_of x) (sym (v.ensures ∙ ap (event_in (events_of c.args.records.now)) a.ensures)))
-          c.requires.1 c.requires.0.few (omega arith)),
-    )
-
-pub returns : goal.returns
-returns c =
-    let e : c.loop-i.i ≡ 0 = omega arith in rw e at c.loop-i.invariant.1
+    let e : k.i ≡ k.i - 1 + 1 = omega arith in
+    rw c.link.ensures
+    (linked_next c.args.limit v.result _ _ _ _ (rw e at k.invariant) (λ x. ap (is_access_of x) (sym (v.ensures ∙ ap (event_in (events_of c.args.records.now)) a.ensures)))
+    c.requires.1 c.requires.0.few (omega arith))

@@ -1,13 +1,8 @@
 -- `events::gather_in` meets its contract: the chains are those of the places from i on. Assumes nothing.
-use Prim.Native.Nat.{◌≤◌}
 use lib.ListN.{length}
 use Rattle.events.specs.Chains.{access_of, Chained}
 use Rattle.events.proofs.gather_in.Given as goal
 
 abbrev pub invariant-loop-i : goal.invariant-loop-i
 invariant-loop-i l =
-    (l.i ≤ length l.order) × Chained (access_of l.records l.order) (length l.order) l.limit l.i l.chain
-
-abbrev pub decreases-loop-i : goal.decreases-loop-i
-decreases-loop-i l =
-    l.i
+    Chained (access_of l.records l.order) (length l.order) l.limit l.i l.chain

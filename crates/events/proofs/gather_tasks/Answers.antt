@@ -11,30 +11,13 @@ use Rattle.events.proofs.gather_tasks.Goals as goal
 
 pub loop-e-init : goal.loop-e-init
 loop-e-init c =
-    (omega arith, start _ _ _ (omega arith))
-
-pub overflow_cast-records : goal.overflow_cast-records
-overflow_cast-records c =
-    let byte : get_or c.args.records.now (4 * (c.loop-e.e - 1)) 0 < 256 = omega (arith, c.type_inv.records (4 * (c.loop-e.e - 1))) in
-    omega (arith, byte)
-
-pub put_first-requires : goal.put_first-requires
-put_first-requires c =
-    let byte : get_or c.args.records.now (4 * (c.loop-e.e - 1)) 0 < 256 = omega (arith, c.type_inv.records (4 * (c.loop-e.e - 1))) in
-    (omega (arith, byte), omega arith)
+    start _ _ _ (omega arith)
 
 pub loop-e-preserved : goal.loop-e-preserved
 loop-e-preserved c =
-    let byte : get_or c.args.records.now (4 * (c.loop-e.e - 1)) 0 < 256 = omega (arith, c.type_inv.records (4 * (c.loop-e.e - 1))) in
     let k = c.loop-e in
     let s = c.args.records.now in
+    let byte : get_or s (4 * (k.e - 1)) 0 < 256 = omega (arith, c.type_inv.records (4 * (k.e - 1))) in
     let t = task_at s (k.e - 1) (omega arith) in
-    let e : k.e ≡ k.e - 1 + 1 = omega arith in (
-      omega arith,
-      rw c.put_first.ensures
-          (next_by (λ i. (event_in (events_of s) i).task) _ _ _ _ _ (rw e at k.invariant.1) t (byte) (omega arith) (omega arith) (omega arith)),
-    )
-
-pub returns : goal.returns
-returns c =
-    let e : c.loop-e.e ≡ 0 = omega arith in rw e at c.loop-e.invariant.1
+    let e : k.e ≡ k.e - 1 + 1 = omega arith in
+    rw c.put_first.ensures (next_by (λ i. (event_in (events_of s) i).task) _ _ _ _ _ (rw e at k.invariant) t byte (omega arith) (omega arith) (omega arith))

@@ -1,13 +1,9 @@
 -- `events::gather_tasks` meets its contract: the chains are those of the events from e on. Assumes nothing.
-use Prim.Native.Nat.{◌/◌, ◌≤◌}
+use Prim.Native.Nat.{◌/◌}
 use lib.ListN.{length}
 use Rattle.events.specs.Chains.{by_task, Chained}
 use Rattle.events.proofs.gather_tasks.Given as goal
 
 abbrev pub invariant-loop-e : goal.invariant-loop-e
 invariant-loop-e l =
-    (l.e ≤ length l.records / 4) × Chained (by_task l.records) (length l.records / 4) 256 l.e l.chain
-
-abbrev pub decreases-loop-e : goal.decreases-loop-e
-decreases-loop-e l =
-    l.e
+    Chained (by_task l.records) (length l.records / 4) 256 l.e l.chain

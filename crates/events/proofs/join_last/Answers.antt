@@ -5,7 +5,6 @@ use mathlib.Core.List.{List}
 use Prim.Native.Nat.{◌<◌}
 use native.Mathlib.Omega.{arith}
 use lib.ListN.{length}
-use lib.Seq.{length-take-le}
 use Rattle.model.specs.declared.Event.{Event}
 use Rattle.model.specs.Recording.{event_in, of_task}
 use Rattle.model.specs.File.{events_of}
@@ -13,20 +12,10 @@ use Rattle.model.specs.Passes.{last_event}
 use Rattle.model.proofs.Tests.{both, eq-eqb}
 use Rattle.model.proofs.LastEvent.{cut_at_join}
 use Rattle.events.proofs.Laws.{events_length, events_take}
-use Rattle.events.proofs.Kept.{all_below, no_join, of_join_lem}
+use Rattle.events.proofs.Kept.{all_below, of_join_lem}
 use Rattle.events.proofs.join_last.Goals as goal
 
-pub returns-then-j-ne-JOIN : goal.returns-then-j-ne-JOIN
-returns-then-j-ne-JOIN c =
-    let a = c.args in
-    let v = c.event_at-j in
-    (no_join (events_of a.records.now) a.e v.result _ v.ensures c.if-j-ne-JOIN.true, tt)
-
 -- the part ends at the join
-pub slice_bounds-last_event-end : goal.slice_bounds-last_event-end
-slice_bounds-last_event-end c =
-    sym (length-take-le _ c.args.records.now (omega (arith, c.requires.1)))
-
 pub returns : goal.returns
 returns c =
     let v = c.event_at-j in

@@ -1,6 +1,5 @@
 -- `events::kept_forks` meets its contract: kept are the last forks among the first e events. Assumes nothing.
 use mathlib.Core.Path.{◌≡◌}
-use Prim.Native.Nat.{◌-◌, ◌≤◌}
 use lib.ListN.{length}
 use Rattle.model.specs.File.{events_of}
 use Rattle.events.specs.Kept.{ForksTo}
@@ -8,8 +7,4 @@ use Rattle.events.proofs.kept_forks.Given as goal
 
 abbrev pub invariant-loop-e : goal.invariant-loop-e
 invariant-loop-e l =
-    (l.e ≤ l.n) × (length l.forks ≡ 256) × ForksTo (events_of l.records) l.e l.forks
-
-abbrev pub decreases-loop-e : goal.decreases-loop-e
-decreases-loop-e l =
-    l.n - l.e
+    record { wide : length l.forks ≡ 256; kept : ForksTo (events_of l.records) l.e l.forks }

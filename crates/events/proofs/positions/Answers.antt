@@ -13,55 +13,30 @@ use Rattle.events.proofs.positions.Goals as goal
 
 pub loop-e-init : goal.loop-e-init
 loop-e-init c =
-    (omega arith, length-replicate {A = ℕ} 1024 0, start _, λ i l. absurd (omega arith))
-
-pub overflow_cast-task : goal.overflow_cast-task
-overflow_cast-task c =
-    let byte : get_or c.args.records.now (4 * c.loop-e.e) 0 < 256 = omega (arith, c.type_inv.records (4 * c.loop-e.e)) in
-    omega arith
-
-pub offset_bounds-own-task : goal.offset_bounds-own-task
-offset_bounds-own-task c =
-    let byte : get_or c.args.records.now (4 * c.loop-e.e) 0 < 256 = omega (arith, c.type_inv.records (4 * c.loop-e.e)) in
-    omega arith
-
-pub bounds-own-task : goal.bounds-own-task
-bounds-own-task c =
-    let byte : get_or c.args.records.now (4 * c.loop-e.e) 0 < 256 = omega (arith, c.type_inv.records (4 * c.loop-e.e)) in
-    byte
+    record { wide = length-replicate {A = ℕ} 1024 0; counted = start _; placed = λ i l. absurd (omega arith) }
 
 pub overflow_add-at : goal.overflow_add-at
 overflow_add-at c =
-    let byte : get_or c.args.records.now (4 * c.loop-e.e) 0 < 256 = omega (arith, c.type_inv.records (4 * c.loop-e.e)) in
     let k = c.loop-e in
     let a = c.args in
-    omega (arith, few a.records.now k.e k.own k.invariant.2 (get_or a.records.now (4 * k.e) 0) (byte))
-
-pub offset_bounds-own-task-in-loop-e : goal.offset_bounds-own-task-in-loop-e
-offset_bounds-own-task-in-loop-e c =
-    let byte : get_or c.args.records.now (4 * c.loop-e.e) 0 < 256 = omega (arith, c.type_inv.records (4 * c.loop-e.e)) in
-    omega arith
-
-pub bounds-own-task-in-loop-e : goal.bounds-own-task-in-loop-e
-bounds-own-task-in-loop-e c =
-    let byte : get_or c.args.records.now (4 * c.loop-e.e) 0 < 256 = omega (arith, c.type_inv.records (4 * c.loop-e.e)) in
-    byte
+    let t = get_or a.records.now (4 * k.e) 0 in
+    let byte : t < 256 = omega (arith, c.type_inv.records (4 * k.e)) in
+    omega (arith, few a.records.now k.e k.own k.invariant.counted t byte)
 
 pub loop-e-preserved : goal.loop-e-preserved
 loop-e-preserved c =
-    let byte : get_or c.args.records.now (4 * c.loop-e.e) 0 < 256 = omega (arith, c.type_inv.records (4 * c.loop-e.e)) in
     let s = c.args.records.now in
     let k = c.loop-e in
-    let t = get_or s (4 * k.e) 0 in (
-      omega arith,
-      simp length-set k.invariant.1,
-      next s k.e t k.own k.invariant.2 (omega arith) refl (byte),
-      kept_next (λ i a. a ≡ position (events_of s) i) k.positions k.e _ (omega arith) k.invariant.3
-          (placed s k.e t k.own k.invariant.2 (omega arith) refl (byte)),
-    )
+    let t = get_or s (4 * k.e) 0 in
+    let byte : t < 256 = omega (arith, c.type_inv.records (4 * k.e)) in
+    record {
+      wide = simp length-set k.invariant.wide;
+      counted = next s k.e t k.own k.invariant.counted (omega arith) refl byte;
+      placed = kept_next (λ i a. a ≡ position (events_of s) i) k.positions k.e _ (omega arith) k.invariant.placed (placed s k.e t k.own k.invariant.counted (omega arith) refl byte);
+    }
 
 pub returns : goal.returns
 returns c =
     let k = c.loop-e in
     let n = events_length c.args.records.now in
-    record { room = omega arith; placed = λ e l. k.invariant.3 e (omega arith) }
+    record { room = omega arith; placed = λ e l. k.invariant.placed e (omega arith) }

@@ -1,7 +1,7 @@
 -- `events::positions` meets its contract: the running counts are those of the first e events, and what is kept for these is right.
 -- Assumes nothing.
 use mathlib.Core.Path.{◌≡◌}
-use Prim.Native.Nat.{ℕ, ◌-◌, ◌≤◌, ◌<◌}
+use Prim.Native.Nat.{ℕ, ◌<◌}
 use lib.ListN.{length, get_or}
 use Rattle.model.specs.File.{events_of}
 use Rattle.model.specs.Vectors.{position}
@@ -10,11 +10,8 @@ use Rattle.events.proofs.positions.Given as goal
 
 abbrev pub invariant-loop-e : goal.invariant-loop-e
 invariant-loop-e l =
-    (l.e ≤ l.n)
-    × (length l.positions ≡ 1024)
-    × Running l.records l.e l.own
-    × ((i : ℕ) → i < l.e → get_or l.positions i 0 ≡ position (events_of l.records) i)
-
-abbrev pub decreases-loop-e : goal.decreases-loop-e
-decreases-loop-e l =
-    l.n - l.e
+    record {
+      wide : length l.positions ≡ 1024;
+      counted : Running l.records l.e l.own;
+      placed : (i : ℕ) → i < l.e → get_or l.positions i 0 ≡ position (events_of l.records) i;
+    }

@@ -1,6 +1,6 @@
 -- `events::task_order` meets its contract: put so far are the events of the tasks below `task`. Assumes nothing.
 use mathlib.Core.Path.{◌≡◌}
-use Prim.Native.Nat.{◌-◌, ◌/◌, ◌≤◌}
+use Prim.Native.Nat.{◌/◌}
 use lib.ListN.{length, replicate}
 use lib.Seq.{sets}
 use Rattle.model.specs.Numbers.{each}
@@ -11,11 +11,8 @@ use Rattle.events.proofs.task_order.Given as goal
 
 abbrev pub invariant-loop-task : goal.invariant-loop-task
 invariant-loop-task l =
-    (l.task ≤ l.tasks)
-    × Chained (by_task l.records) (length l.records / 4) 256 0 l.chain
-    × (l.order ≡ sets (replicate 1024 0) 0 (each (own_events (events_of l.records)) l.task))
-    × (l.at ≡ length (each (own_events (events_of l.records)) l.task))
-
-abbrev pub decreases-loop-task : goal.decreases-loop-task
-decreases-loop-task l =
-    l.tasks - l.task
+    record {
+      chained : Chained (by_task l.records) (length l.records / 4) 256 0 l.chain;
+      order_is : l.order ≡ sets (replicate 1024 0) 0 (each (own_events (events_of l.records)) l.task);
+      at_is : l.at ≡ length (each (own_events (events_of l.records)) l.task);
+    }

@@ -1,15 +1,10 @@
 -- `layout::put_picked` meets its contract. The picked records stand at the front, and the end of the file behind them. Assumes nothing.
 use Prim.Native.Nat.{◌*◌}
-use native.Mathlib.Omega.{arith}
 use lib.ListN.{length}
 use Rattle.model.specs.Writing.{records_in}
 use Rattle.model.proofs.Picking.{in_length}
 use Rattle.layout.proofs.Copies.{filed}
 use Rattle.layout.proofs.put_picked.Goals as goal
-
-pub put_records-requires : goal.put_records-requires
-put_records-requires c =
-    (c.requires.0, omega arith)
 
 pub returns : goal.returns
 returns c =

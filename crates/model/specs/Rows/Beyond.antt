@@ -1,8 +1,7 @@
 -- What stands past an end and beyond a width. No accepted file comes there, and the definitions still say what counts.
 -- Proved as `beyond` in proofs/Rows.antt. Assumes nothing.
-use Rattle.std.specs.Prelude.{◌≡◌, false, [], ◌∷◌}
+use Rattle.std.specs.Prelude.{◌≡◌, false, [], ◌∷◌, None}
 use Rattle.model.specs.declared.Counts.{Counts}
-use Rattle.model.specs.declared.Found.{Found}
 use Rattle.model.specs.Numbers.{nth, kth_least}
 use Rattle.model.specs.Recording.{event, named}
 use Rattle.model.specs.File.{event_at, trailer_of, recording_of}
@@ -26,7 +25,7 @@ pub record Beyond : Type 0 where
   pub no_vector : number [] 0 0 ≡ 0
   pub no_task : number ((1 ∷ []) ∷ []) 0 1 ≡ 0
   pub no_place : place (2 ∷ 0 ∷ []) 1 ≡ 2
-  pub no_match : nth (5 ∷ []) 1 ≡ Found.Nothing
+  pub no_match : nth (5 ∷ []) 1 ≡ None
   pub fewer_than_k : kth_least 3 (2 ∷ 1 ∷ []) ≡ 0
   pub k_0 : kth_least 0 (2 ∷ 1 ∷ []) ≡ 0
   pub bits_17 : u16_bytes 65538 ≡ 2 ∷ 0 ∷ []

@@ -1,9 +1,8 @@
 -- Two recordings held together (document 02, No. 4 and 6): the recordings of document 01 with themselves, two that differ in their recorded
 -- runs, each way in which two recordings differ, which refusal is answered where two apply, and what is left in the lent memory.
 -- Proved as `joined` in proofs/Rows.antt. Assumes nothing.
-use Rattle.std.specs.Prelude.{ℕ, ◌/◌, ◌≡◌, List, [], ◌∷◌, ◌++◌, length}
+use Rattle.std.specs.Prelude.{ℕ, ◌/◌, ◌≡◌, List, [], ◌∷◌, ◌++◌, length, Ok, Err}
 use Rattle.model.specs.declared.Refusal.{Refusal}
-use Rattle.model.specs.declared.Joint.{Joint}
 use Rattle.model.specs.Refusals.{number_of, record_of, differing_task, differing_position}
 use Rattle.model.specs.Together.{joint_of, first_work_after, second_work_after, joint_list_after}
 use Rattle.model.specs.Rows.Starred.{of, W, R, S, P, file, A, B, C, D, E, F, G, H, I, J, work, room, RefusedAs}
@@ -13,16 +12,16 @@ use Rattle.model.specs.Rows.Table.{lent}
 
 -- held together, f and g list just these numbers, five an entry
 abbrev pub Lists : List ℕ → List ℕ → List ℕ → Type 0
-Lists f g l = (joint_of f g work work (room l) ≡ Joint.Pairs (length l / 5)) × (joint_list_after f g work work (room l) ≡ l)
+Lists f g l = (joint_of f g work work (room l) ≡ Ok (length l / 5)) × (joint_list_after f g work work (room l) ≡ l)
 
 -- they differ at this task and position, which is no record's fault; no memory need be lent
 abbrev pub Differ : List ℕ → List ℕ → ℕ → ℕ → Type 0
 Differ f g t p =
-    (r : Refusal) × (joint_of f g [] [] [] ≡ Joint.Refused r) × (number_of r ≡ 14) × (record_of r ≡ 0) × (differing_task r ≡ t) × (differing_position r ≡ p)
+    (r : Refusal) × (joint_of f g [] [] [] ≡ Err r) × (number_of r ≡ 14) × (record_of r ≡ 0) × (differing_task r ≡ t) × (differing_position r ≡ p)
 
 -- the call with f and g, works of m and n numbers and a list of k, is refused by this number at this record, with these pairs needed
 abbrev pub Refused : List ℕ → List ℕ → ℕ → ℕ → ℕ → ℕ → ℕ → ℕ → Type 0
-Refused f g m n k number e pairs = RefusedAs Joint.Refused (joint_of f g (lent m) (lent n) (lent k)) number e pairs
+Refused f g m n k number e pairs = RefusedAs (joint_of f g (lent m) (lent n) (lent k)) number e pairs
 
 -- a job: task 0 writes cells 0 and 1, task 1 reads them; and its records in another order
 abbrev pub job : List ℕ

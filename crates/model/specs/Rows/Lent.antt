@@ -1,7 +1,6 @@
 -- What each call leaves in the memory that it is lent, refusals too (document 01, List and marks and Refusal table).
 -- Proved as `lent` in proofs/Rows.antt. Assumes nothing.
-use Rattle.std.specs.Prelude.{ℕ, ◌≡◌, List, [], ◌∷◌, ◌++◌}
-use Rattle.model.specs.declared.Written.{Written}
+use Rattle.std.specs.Prelude.{ℕ, ◌≡◌, List, [], ◌∷◌, ◌++◌, Ok}
 use Rattle.model.specs.Analysing.{work_after_analysing, list_after_analysing}
 use Rattle.model.specs.Question.{work_after_asking}
 use Rattle.model.specs.Writing.{written_of, out_after_writing}
@@ -40,13 +39,13 @@ pub record Lent : Type 0 where
   pub ask_event : work_after_asking A 3 3 0 (lent 17) ≡ lent 17
   pub ask_work_short : work_after_asking A 0 3 0 (lent 15) ≡ lent 15
   -- writing: the length and the file, and beyond it what was there; refused by a record, by 13, and by 12
-  pub length : written_of (W 0) least [] [] (lent 21) ≡ Written.Length 20
+  pub length : written_of (W 0) least [] [] (lent 21) ≡ Ok 20
   pub written : out_after_writing (W 0) least [] [] (lent 21) ≡ W 0 ++ trailer 0 1 1 0 1 1 ++ lent 1
   pub no_records : out_after_writing [] least [] [] (lent 17) ≡ trailer 0 0 1 0 1 1 ++ lent 1
-  pub just_fits : written_of (W 0) least [] [] (lent 20) ≡ Written.Length 20
-  pub length_starts : written_of (W 0) (edited 2) (4 ∷ 255 ∷ []) [] (lent 23) ≡ Written.Length 22
+  pub just_fits : written_of (W 0) least [] [] (lent 20) ≡ Ok 20
+  pub length_starts : written_of (W 0) (edited 2) (4 ∷ 255 ∷ []) [] (lent 23) ≡ Ok 22
   pub written_starts : out_after_writing (W 0) (edited 2) (4 ∷ 255 ∷ []) [] (lent 23) ≡ W 0 ++ (4 ∷ 255 ∷ trailer 0 1 1 2 1 2) ++ lent 1
-  pub length_posts : written_of (Post 0 ++ Await 0) flagged (4 ∷ 255 ∷ []) (1 ∷ []) (lent 27) ≡ Written.Length 27
+  pub length_posts : written_of (Post 0 ++ Await 0) flagged (4 ∷ 255 ∷ []) (1 ∷ []) (lent 27) ≡ Ok 27
   pub written_posts : out_after_writing (Post 0 ++ Await 0) flagged (4 ∷ 255 ∷ []) (1 ∷ []) (lent 28)
       ≡ Post 0 ++ Await 0 ++ (4 ∷ 255 ∷ 1 ∷ 0 ∷ 0 ∷ 0 ∷ 0 ∷ 2 ∷ 0 ∷ 0 ∷ 0 ∷ 1 ∷ 0 ∷ 2 ∷ 1 ∷ 1 ∷ 0 ∷ 3 ∷ 0 ∷ []) ++ lent 1
   pub record_refused : out_after_writing (Fork 0 0) least [] [] (lent 21) ≡ lent 21

@@ -1,8 +1,7 @@
 -- The parts of a file (document 01, The recording file; 02, No. 1 and 6): its fields, the preamble, the records' part, the start bytes,
 -- the post bytes, and a walk's steps.
 -- Proved as `parts` in proofs/Rows.antt. Assumes nothing.
-use Rattle.std.specs.Prelude.{ℕ, ◌≡◌, List, [], ◌∷◌, ◌++◌}
-use Rattle.model.specs.declared.Item.{Item}
+use Rattle.std.specs.Prelude.{ℕ, ◌≡◌, List, [], ◌∷◌, ◌++◌, Some, None}
 use Rattle.model.specs.File.{trailer_of}
 use Rattle.model.specs.Reading.{preamble_of, records_of, starts_of, posts_of}
 use Rattle.model.specs.Walking.{step_at}
@@ -55,7 +54,7 @@ pub record Parts : Type 0 where
   pub broken_starts : starts_of (5 ∷ trailer 0 0 0 1 0 2) ≡ []
   pub broken_posts : posts_of (kernel 0 1 1 0 (5 ∷ []) (3 ∷ []) []) ≡ []
   -- a step before the end, the last one, at the end, and past it
-  pub step_0 : step_at ragged 0 ≡ record { item = Item.Event (record { task = 1; kind = 2; object = 1027 }); next = 1 }
-  pub step_1 : step_at ragged 1 ≡ record { item = Item.Event (record { task = 5; kind = 6; object = 2055 }); next = 2 }
-  pub step_2 : step_at ragged 2 ≡ record { item = Item.End; next = 2 }
-  pub step_3 : step_at ragged 3 ≡ record { item = Item.End; next = 3 }
+  pub step_0 : step_at ragged 0 ≡ record { item = Some (record { task = 1; kind = 2; object = 1027 }); next = 1 }
+  pub step_1 : step_at ragged 1 ≡ record { item = Some (record { task = 5; kind = 6; object = 2055 }); next = 2 }
+  pub step_2 : step_at ragged 2 ≡ record { item = None; next = 2 }
+  pub step_3 : step_at ragged 3 ≡ record { item = None; next = 3 }

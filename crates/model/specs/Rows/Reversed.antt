@@ -1,9 +1,8 @@
 -- Orders that show a pair reversed (document 02, No. 5 and 6): the sure pairs of documents 01 and 02 written both ways, pairs that the recorded
 -- run orders, which refusal is answered where two apply, and what is left in the lent memory.
 -- Proved as `turned` in proofs/Rows.antt. Assumes nothing.
-use Rattle.std.specs.Prelude.{ℕ, ◌+◌, ◌≡◌, List, [], ◌∷◌, ◌++◌}
+use Rattle.std.specs.Prelude.{ℕ, ◌+◌, ◌≡◌, List, [], ◌∷◌, ◌++◌, Ok, Err}
 use Rattle.model.specs.declared.Refusal.{Refusal}
-use Rattle.model.specs.declared.Written.{Written}
 use Rattle.model.specs.Refusals.{number_of, record_of, pairs_of, differing_task, differing_position}
 use Rattle.model.specs.Analysing.{work_after_analysing}
 use Rattle.model.specs.Reversed.{reversed_of, work_after_reversing, out_after_reversing}
@@ -16,17 +15,17 @@ use Rattle.model.specs.Rows.Lent.{A_start, A_raised}
 
 -- the call on f with x chosen and y the other answers the length n and leaves g; the two output bytes beyond it stay
 abbrev pub Writes : List ℕ → ℕ → ℕ → ℕ → List ℕ → Type 0
-Writes f x y n g = (reversed_of f x y work (lent (n + 2)) ≡ Written.Length n) × (out_after_reversing f x y work (lent (n + 2)) ≡ g ++ lent 2)
+Writes f x y n g = (reversed_of f x y work (lent (n + 2)) ≡ Ok n) × (out_after_reversing f x y work (lent (n + 2)) ≡ g ++ lent 2)
 
 -- it is refused by 15, which is no record's fault and needs no pairs, and no task differs
 abbrev pub Unsure : List ℕ → ℕ → ℕ → Type 0
 Unsure f x y =
-    (r : Refusal) × (reversed_of f x y work (lent 40) ≡ Written.Refused r)
+    (r : Refusal) × (reversed_of f x y work (lent 40) ≡ Err r)
     × (number_of r ≡ 15) × (record_of r ≡ 0) × (pairs_of r ≡ 0) × (differing_task r ≡ 0) × (differing_position r ≡ 0)
 
 -- with m work numbers and k output bytes it is refused by this number at this record
 abbrev pub Refused : List ℕ → ℕ → ℕ → ℕ → ℕ → ℕ → ℕ → Type 0
-Refused f x y m k number e = RefusedAs Written.Refused (reversed_of f x y (lent m) (lent k)) number e 0
+Refused f x y m k number e = RefusedAs (reversed_of f x y (lent m) (lent k)) number e 0
 
 -- a pool that starts at four, in edition 2
 abbrev pub four : List ℕ
@@ -90,11 +89,11 @@ pub record Turned : Type 0 where
   pub event_same : Refused A 3 3 16 40 11 0
   pub work_short : Refused C 1 4 29 36 9 0
   pub out_short : Refused C 1 4 30 35 12 0
-  pub out_fits : reversed_of C 1 4 (lent 30) (lent 36) ≡ Written.Length 36
+  pub out_fits : reversed_of C 1 4 (lent 30) (lent 36) ≡ Ok 36
   pub out_short_starts : Refused four 0 6 36 52 12 0
-  pub out_fits_starts : reversed_of four 0 6 (lent 36) (lent 53) ≡ Written.Length 53
+  pub out_fits_starts : reversed_of four 0 6 (lent 36) (lent 53) ≡ Ok 53
   pub out_short_posts : Refused opened 1 4 30 37 12 0
-  pub out_fits_posts : reversed_of opened 1 4 (lent 30) (lent 38) ≡ Written.Length 38
+  pub out_fits_posts : reversed_of opened 1 4 (lent 30) (lent 38) ≡ Ok 38
   -- where two apply: the file, 11, 9, 15, 12
   pub file_before_event : Refused I 0 0 0 0 7 0
   pub event_before_work : Refused A 0 0 15 0 11 0

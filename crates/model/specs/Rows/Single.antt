@@ -1,7 +1,6 @@
 -- Single-instruction accesses (document 02, No. 8): what is listed of two updates of a tally, and in which files such accesses stand.
 -- Each row computes the whole way from a file's bytes. Proved as `single` in proofs/Rows.antt. Assumes nothing.
-use Rattle.std.specs.Prelude.{ℕ, ◌≡◌, true, List, [], ◌∷◌, ◌++◌}
-use Rattle.model.specs.declared.Written.{Written}
+use Rattle.std.specs.Prelude.{ℕ, ◌≡◌, true, List, [], ◌∷◌, ◌++◌, Ok}
 use Rattle.model.specs.Writing.{written_of}
 use Rattle.model.specs.Rows.Starred.{of, W, R, file, Analyses, Accepts, RefusedAs, Refuses}
 use Rattle.model.specs.Rows.Started.{pool}
@@ -36,9 +35,9 @@ pub record Single : Type 0 where
   pub kind_9_edition_2 : Refuses (pool 1 1 1 (1 ∷ []) (SR 0)) 5 0
   pub kind_10_edition_2 : Refuses (pool 1 1 1 (1 ∷ []) (SW 0)) 5 0
   pub kind_11 : Refuses (cell (of 11 0 0)) 5 0
-  pub kind_10_written : written_of (SW 0) (counted 1 0 0 1) [] [] (lent 20) ≡ Written.Length 20
-  pub kind_10_edition_2_written : RefusedAs Written.Refused (written_of (SW 0) (edited 2) (lent 2) [] (lent 22)) 5 0 0
-  pub kind_11_written : RefusedAs Written.Refused (written_of (of 11 0 0) (counted 1 0 0 1) [] [] (lent 20)) 5 0 0
+  pub kind_10_written : written_of (SW 0) (counted 1 0 0 1) [] [] (lent 20) ≡ Ok 20
+  pub kind_10_edition_2_written : RefusedAs (written_of (SW 0) (edited 2) (lent 2) [] (lent 22)) 5 0 0
+  pub kind_11_written : RefusedAs (written_of (of 11 0 0) (counted 1 0 0 1) [] [] (lent 20)) 5 0 0
   -- their object is a cell
   pub cell_1_read : Refuses (cell (of 9 0 1)) 6 0
   pub cell_1_written : Refuses (cell (of 10 0 1)) 6 0

@@ -1,14 +1,12 @@
 -- The starred recordings of document 01 (the entries as 02, No. 2 has them), as rows of one statement on the definitions, and
 -- edge files as rows of another.
 -- Each row computes the whole way from a file's bytes. Proved in proofs/Starred.antt. Assumes nothing.
-use Rattle.std.specs.Prelude.{ℕ, ◌/◌, ◌≡◌, Bool, true, false, List, [], ◌∷◌, ◌++◌, length, replicate}
+use Rattle.std.specs.Prelude.{ℕ, ◌/◌, ◌≡◌, Bool, true, false, List, [], ◌∷◌, ◌++◌, length, replicate, Result, Ok, Err}
 use Rattle.model.specs.declared.Refusal.{Refusal}
-use Rattle.model.specs.declared.Reading.{Reading}
-use Rattle.model.specs.declared.Analysis.{Analysis}
 use Rattle.model.specs.Refusals.{number_of, record_of, pairs_of, differing_task, differing_position}
 use Rattle.model.specs.File.{trailer_of}
 use Rattle.model.specs.Reading.{reading_of}
-use Rattle.model.specs.Analysing.{analysis_of, list_after_analysing}
+use Rattle.model.specs.Analysing.{analysis_of, list_after_analysing, analysed}
 use Rattle.model.specs.Writing.{file_of}
 
 -- ---- recordings as record bytes
@@ -88,23 +86,23 @@ Lists f b l = list_after_analysing f b work (room l) ≡ l
 
 -- and makes so many passes, settled or not
 abbrev pub Analyses : List ℕ → ℕ → ℕ → Bool → List ℕ → Type 0
-Analyses f b n s l = (analysis_of f b work (room l) ≡ Analysis.Done n s (length l / 3)) × Lists f b l
+Analyses f b n s l = (analysis_of f b work (room l) ≡ analysed n s (length l / 3)) × Lists f b l
 
 abbrev pub Accepts : List ℕ → Type 0
-Accepts f = reading_of f ≡ Reading.Accepted (trailer_of f)
+Accepts f = reading_of f ≡ Ok (trailer_of f)
 
 -- an answer is a refusal with this number, this record and these pairs needed
-abbrev pub RefusedAs : {X : Type 0} → (Refusal → X) → X → ℕ → ℕ → ℕ → Type 0
-RefusedAs refused answer n e p = (r : Refusal) × (answer ≡ refused r) × (number_of r ≡ n) × (record_of r ≡ e) × (pairs_of r ≡ p)
+abbrev pub RefusedAs : {A : Type 0} → Result A Refusal → ℕ → ℕ → ℕ → Type 0
+RefusedAs answer n e p = (r : Refusal) × (answer ≡ Err r) × (number_of r ≡ n) × (record_of r ≡ e) × (pairs_of r ≡ p)
 
 -- it is a refusal with this number, which is no record's fault and needs no pairs, and no task differs
-abbrev pub RefusedAlone : {X : Type 0} → (Refusal → X) → X → ℕ → Type 0
-RefusedAlone refused answer n =
-    (r : Refusal) × (answer ≡ refused r) × (number_of r ≡ n) × (record_of r ≡ 0) × (pairs_of r ≡ 0) × (differing_task r ≡ 0) × (differing_position r ≡ 0)
+abbrev pub RefusedAlone : {A : Type 0} → Result A Refusal → ℕ → Type 0
+RefusedAlone answer n =
+    (r : Refusal) × (answer ≡ Err r) × (number_of r ≡ n) × (record_of r ≡ 0) × (pairs_of r ≡ 0) × (differing_task r ≡ 0) × (differing_position r ≡ 0)
 
 -- reading refuses f by this number at this record
 abbrev pub Refuses : List ℕ → ℕ → ℕ → Type 0
-Refuses f n e = RefusedAs Reading.Refused (reading_of f) n e 0
+Refuses f n e = RefusedAs (reading_of f) n e 0
 
 pub record Starred : Type 0 where
   pub a_0 : Analyses A 0 0 false (0 ∷ 3 ∷ 0 ∷ [])

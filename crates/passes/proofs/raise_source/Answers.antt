@@ -1,11 +1,11 @@
 -- raise_source meets its contract: what is kept at the place is the source.
 -- Assumes nothing.
 use mathlib.Core.Path.{◌≡◌, ap, subst, ◌∙◌}
+use Rattle.std.specs.Prelude.{Option}
 use mathlib.Core.List.{[]}
 use Prim.Native.Nat.{ℕ, ◌/◌}
 use native.Mathlib.Omega.{arith}
 use lib.ListN.{length, get_or}
-use Rattle.model.specs.declared.Found.{Found}
 use Rattle.model.specs.Numbers.{found}
 use Rattle.model.specs.Recording.{size}
 use Rattle.model.specs.File.{events_of, recording_by}
@@ -16,10 +16,6 @@ use Rattle.passes.specs.Lent.{vectors_in}
 use Rattle.passes.specs.Steps.{taken}
 use Rattle.passes.proofs.Taken.{inside, taken_found}
 use Rattle.passes.proofs.raise_source.Goals as goal
-
-pub bounds-sources-i : goal.bounds-sources-i
-bounds-sources-i c =
-    let p = c.requires in omega (arith, p.records.0.few, p.i_bound)
 
 pub raise_found-requires : goal.raise_found-requires
 raise_found-requires c =
@@ -40,6 +36,6 @@ returns c =
     let from = f.ensures.0 ∙ ap (λ (n : ℕ). found_below n (get_or c.args.sources.now c.args.i 0)) (events) ∙ c.requires.records.3.source c.args.i c.requires.i_bound in record {
       becomes = ap (chunks (size E) a.tasks) x.ensures.v_after
           ∙ taken_found a (size E) c.args.v.now c.args.e f.result c.requires.records.1 c.requires.records.2
-          ∙ ap (λ (g : Found). taken a (vectors_in r a c.args.v.now) (found g) c.args.e) from;
+          ∙ ap (λ (g : Option ℕ). taken a (vectors_in r a c.args.v.now) (found g) c.args.e) from;
       rose = x.ensures.rose;
     }

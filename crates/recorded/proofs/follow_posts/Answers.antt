@@ -1,94 +1,77 @@
--- follow_posts meets its contract: the posts followed so far are the first on the flag, and the next one of the chain is at hand.
+-- follow_posts meets its contract: the posts followed so far are those that the walk has yielded.
 -- Assumes nothing.
 use mathlib.Core.Path.{◌≡◌, sym, ap, ◌∙◌}
+use Rattle.std.specs.Prelude.{Some}
+use Rattle.std.specs.Iterator.Adapters.{take_source, take_count}
 use mathlib.Core.List.{List}
-use Prim.Native.Nat.{◌+◌, ◌/◌, ◌<◌}
+use Prim.Native.Nat.{ℕ, ◌<◌}
 use native.Mathlib.Omega.{arith}
-use lib.Dec.{ltb}
-use lib.ListN.{length, get_or, take}
-use Rattle.model.specs.declared.Found.{Found}
+use lib.ListN.{length}
+use Rattle.model.specs.Numbers.{picked}
 use Rattle.model.specs.Recording.{post}
 use Rattle.model.specs.File.{events_of}
-use Rattle.model.specs.Passes.{posts_on}
-use Rattle.model.proofs.Tests.{cases, first, second, and_false, tests}
-use Rattle.vectors.proofs.Chunks.{next_row, chunks_shaped}
-use Rattle.events.specs.Chains.{on_at, slot_of, head, Nearest, Chain}
-use Rattle.passes.specs.Lent.{vectors_in}
+use Rattle.model.specs.Passes.{events_on}
+use Rattle.vectors.proofs.Chunks.{chunks_shaped, next_row}
+use Rattle.events.specs.Chains.{on_at}
+use Rattle.events.proofs.Links.{left}
+use Rattle.passes.specs.Lookups.{vectors_over}
 use Rattle.passes.specs.Steps.{taken}
-use Rattle.recorded.proofs.Taken.{taken_none, found_then}
 use Rattle.passes.proofs.Walks.{has_slots}
-use Rattle.recorded.proofs.Matching.{hand_first, hand_next, first_more, first_all}
+use Rattle.recorded.proofs.Taken.{taken_none, found_then}
+use Rattle.recorded.proofs.Walks.{one_of_first, first_all}
 use Rattle.recorded.proofs.follow_posts.Goals as goal
+use Rattle.recorded.proofs.follow_posts.Goals.{After-into_iter-a-iterator, In-Some}
 
-pub loop-followed-init : goal.loop-followed-init
-loop-followed-init c =
-    let posts : Chain (on_at c.args.records.now post c.args.g) (length (events_of c.args.records.now)) (head (slot_of post c.args.g)) c.args.chains.now = c.requires.3.each post c.args.g (has_slots c.args.g c.requires.4).2 in
+pub events_on-posts-requires : goal.events_on-posts-requires
+events_on-posts-requires c =
+    let p = c.args.look.now.prepared in
+    (p.linked, omega (arith, p.placed.records.whole, p.placed.records.few), (has_slots c.args.g c.requires.2).2)
+
+pub loop-a-init : goal.loop-a-init
+loop-a-init c =
     let a = c.args in
-    let n = length (events_of a.records.now) in (
-      rw c.first_on-a.ensures (hand_first (on_at a.records.now post a.g) n _ posts.first),
-      omega arith,
-      c.requires.1,
-      sym (taken_none a.counts (vectors_in a.records.now a.counts a.v.now) a.e (chunks_shaped n a.counts.tasks a.v.now c.requires.1) c.requires.2),
-    )
+    let n = length (events_of a.look.now.records.now) in
+    record {
+      fitting = c.requires.0;
+      followed = sym (taken_none a.look.now.counts (vectors_over a.look.now a.v.now) a.e (chunks_shaped n a.look.now.counts.tasks a.v.now c.requires.0) c.requires.1);
+    }
+
+-- the walk goes over the posts, and stops after `most` of them
+whole : (c : After-into_iter-a-iterator)
+    → (left (take_source c.into_iter-a-iterator.result) ≡ picked (on_at c.args.look.now.records.now post c.args.g) (length (events_of c.args.look.now.records.now))) × (take_count c.into_iter-a-iterator.result ≡ c.args.most)
+whole c =
+    rw c.into_iter-a-iterator.ensures.into_iter_gives (ap left c.take-a-items.ensures.source ∙ c.events_on-posts.ensures, c.take-a-items.ensures.count)
+
+inside : (c : In-Some) → c.in-Some.a < length (events_of c.args.look.now.records.now)
+inside c =
+    let k = c.loop-a in
+    let w = whole (goal.at.In-Some c).After-into_iter-a-iterator in
+    one_of_first (on_at c.args.look.now.records.now post c.args.g) (length (events_of c.args.look.now.records.now)) c.args.most _ w.0 w.1 k.yielded _ k.yielded_by _ c.next.new.self c.next.ensures.steps c.in-Some.a c.in-Some.is
 
 pub raise_row-requires : goal.raise_row-requires
 raise_row-requires c =
-    let inside : c.loop-followed.a < length (events_of c.args.records.now) = let t = second (ltb c.loop-followed.followed c.args.most) (ltb c.loop-followed.a (length c.args.records.now / 4)) c.loop-followed-test.true in
-    let w = c.requires.0.whole in
-    omega tests in
-    let m = c.args.counts.tasks in let n = length (events_of c.args.records.now) in (omega (arith, next_row c.args.e n m c.requires.2, c.loop-followed.invariant.2), omega (arith, next_row c.loop-followed.a n m inside, c.loop-followed.invariant.2))
+    let l = c.args.look.now in
+    let n = length (events_of l.records.now) in
+    let fit = c.loop-a.invariant.fitting in
+    (omega (arith, fit, next_row c.args.e n l.counts.tasks c.requires.1), omega (arith, fit, next_row c.in-Some.a n l.counts.tasks (inside (goal.at.raise_row-requires c).In-Some)))
 
-pub overflow_add-followed : goal.overflow_add-followed
-overflow_add-followed c =
-    let more : c.loop-followed.followed < c.args.most = let t = first (ltb c.loop-followed.followed c.args.most) (ltb c.loop-followed.a (length c.args.records.now / 4)) c.loop-followed-test.true in omega tests in
-    omega (arith, more)
-
-pub at_place-a-requires : goal.at_place-a-requires
-at_place-a-requires c =
-    let inside : c.loop-followed.a < length (events_of c.args.records.now) = let t = second (ltb c.loop-followed.followed c.args.most) (ltb c.loop-followed.a (length c.args.records.now / 4)) c.loop-followed-test.true in
-    let w = c.requires.0.whole in
-    omega tests in
-    omega (arith, inside, c.requires.0.few, c.requires.3.wide)
-
-pub loop-followed-smaller : goal.loop-followed-smaller
-loop-followed-smaller c =
-    let more : c.loop-followed.followed < c.args.most = let t = first (ltb c.loop-followed.followed c.args.most) (ltb c.loop-followed.a (length c.args.records.now / 4)) c.loop-followed-test.true in omega tests in
-    omega (arith, more)
-
-pub loop-followed-preserved : goal.loop-followed-preserved
-loop-followed-preserved c =
-    let more : c.loop-followed.followed < c.args.most = let t = first (ltb c.loop-followed.followed c.args.most) (ltb c.loop-followed.a (length c.args.records.now / 4)) c.loop-followed-test.true in omega tests in
-    let inside : c.loop-followed.a < length (events_of c.args.records.now) = let t = second (ltb c.loop-followed.followed c.args.most) (ltb c.loop-followed.a (length c.args.records.now / 4)) c.loop-followed-test.true in
-    let w = c.requires.0.whole in
-    omega tests in
-    let posts : Chain (on_at c.args.records.now post c.args.g) (length (events_of c.args.records.now)) (head (slot_of post c.args.g)) c.args.chains.now = c.requires.3.each post c.args.g (has_slots c.args.g c.requires.4).2 in
-    let near : Nearest (on_at c.args.records.now post c.args.g) (length (events_of c.args.records.now)) (c.loop-followed.a + 1) (get_or c.args.chains.now c.loop-followed.a 0) = posts.next c.loop-followed.a inside (c.loop-followed.invariant.0.hit inside) in
-    let p = c.loop-followed in
+pub loop-a-preserved : goal.loop-a-preserved
+loop-a-preserved c =
     let a = c.args in
-    let n = length (events_of a.records.now) in
-    let f = c.raise_row in (
-      rw c.at_place-a.ensures (hand_next (on_at a.records.now post a.g) n _ p.a _ inside p.invariant.0 near),
-      omega (arith, more),
-      f.auto.v ∙ p.invariant.2,
-      ap (vectors_in a.records.now a.counts) f.ensures.v_after
-          ∙ found_then a.counts n a.v.now p.v a.e _ (Found.At p.a) c.requires.1 p.invariant.2 c.requires.2 p.invariant.3
-          ∙ ap (λ (l : List _). taken a.counts (vectors_in a.records.now a.counts a.v.now) l a.e) (first_more a.records.now post a.g _ p.a p.invariant.0 inside),
-    )
+    let k = c.loop-a in
+    let f = c.raise_row in
+    let n = length (events_of a.look.now.records.now) in
+    record {
+      fitting = f.auto.v ∙ k.invariant.fitting;
+      followed = ap (vectors_over a.look.now) f.ensures.v_after
+          ∙ found_then a.look.now.counts n a.v.now k.v a.e k.yielded (Some c.in-Some.a) c.requires.0 k.invariant.fitting c.requires.1 k.invariant.followed;
+    }
 
-pub shape_of-v : goal.shape_of-v
-shape_of-v c =
-    omega (arith, c.loop-followed.invariant.2, c.requires.1)
-
--- as many have been followed, or there are no more
 pub returns : goal.returns
+unfolding events_on
 returns c =
-    let p = c.loop-followed in
     let a = c.args in
-    let all : take p.followed (posts_on (events_of a.records.now) a.g) ≡ take a.most (posts_on (events_of a.records.now) a.g) =
-    cases (ltb p.followed a.most)
-    (λ t.
-    let u = and_false (ltb p.followed a.most) (ltb p.a (length a.records.now / 4)) c.loop-followed-test.false t in
-    let w = c.requires.0.whole in
-    first_all a.records.now post a.g p.followed p.a p.invariant.0 (omega tests) a.most p.invariant.1)
-    (λ t. let q : p.followed ≡ a.most = omega tests in rw q) in
-    p.invariant.3 ∙ ap (λ (l : List _). taken a.counts (vectors_in a.records.now a.counts a.v.now) l a.e) all
+    let k = c.loop-a in
+    let w = whole (goal.at.returns c).After-into_iter-a-iterator in
+    let all = first_all (on_at a.look.now.records.now post a.g) (length (events_of a.look.now.records.now)) a.most _ w.0 w.1 k.yielded _ k.yielded_by _ c.next.new.self c.next.ensures.steps c.in-None.is in
+    k.invariant.followed ∙ ap (λ (l : List ℕ). taken a.look.now.counts (vectors_over a.look.now a.v.now) l a.e) all

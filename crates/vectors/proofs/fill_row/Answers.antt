@@ -1,35 +1,17 @@
--- fill_row meets its contract: to write what is left over what is there gives the whole row.
+-- fill_row meets its contract: the part is filled with 0, and where the row has the task, its number is x.
 -- Assumes nothing.
-use mathlib.Core.Path.{◌≡◌, refl, sym, ◌∙◌}
-use Prim.Native.Nat.{◌+◌, ◌<◌}
-use native.Mathlib.Nat.{add-zero}
-use native.Mathlib.Omega.{arith}
-use lib.ListN.{get_or, length-set}
-use Rattle.vectors.specs.Rows.{own_row}
-use Rattle.vectors.proofs.Chunks.{own_length, own_same, own_other}
-use Rattle.vectors.proofs.Stores.{sets_next, sets_all}
+use Rattle.std.proofs.Common.{◌≡◌, rules, replicate}
+use Rattle.vectors.proofs.Filling.{part_zero, part_own}
 use Rattle.vectors.proofs.fill_row.Goals as goal
-use Rattle.vectors.proofs.fill_row.Goals.{else-t-own, then-t-own}
 
-pub loop-t-init : goal.loop-t-init
-loop-t-init c =
-    (omega arith, refl, rw (add-zero c.args.at))
-
-pub loop-t-preserved : goal.loop-t-preserved
-loop-t-preserved c =
+pub returns-then-own-tasks : goal.returns-then-own-tasks
+returns-then-own-tasks c =
     let a = c.args in
-    let k = c.loop-t in
-    let u = own_row a.tasks a.own a.x in
-    let n = own_length a.tasks a.own a.x in
-    let h : k.t < a.tasks = omega arith in
-    let y : c.if-t-own.y ≡ get_or (own_row a.tasks a.own a.x) k.t 0 =
-    elim c.if-t-own.branch [ then-t-own w ↦ w.y-is ∙ sym (own_same a.tasks a.own a.x k.t h w.if-t-own.true) | else-t-own w ↦ w.y-is ∙ sym (own_other a.tasks a.own a.x k.t h w.if-t-own.false) ] in
-    let p : a.at + (k.t + 1) ≡ a.at + k.t + 1 = omega arith in
-    (omega arith, simp length-set k.invariant.1, rw p (sets_next k.v u (a.at + k.t) k.t c.if-t-own.y (omega arith) y ∙ k.invariant.2))
+    let e : c.fill.new.self ≡ replicate a.tasks 0 = search rules in
+    part_own a.v.now c.fill.new.self a.at a.tasks a.own a.x c.requires e c.if-own-tasks.true
 
-pub returns : goal.returns
-returns c =
+pub returns-else-own-tasks : goal.returns-else-own-tasks
+returns-else-own-tasks c =
     let a = c.args in
-    let k = c.loop-t in
-    let n = own_length a.tasks a.own a.x in
-    sym (sets_all k.v (own_row a.tasks a.own a.x) (a.at + k.t) k.t (omega arith)) ∙ k.invariant.2
+    let e : c.fill.new.self ≡ replicate a.tasks 0 = search rules in
+    part_zero a.v.now c.fill.new.self a.at a.tasks a.own a.x c.requires e c.if-own-tasks.false

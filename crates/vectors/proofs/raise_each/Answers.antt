@@ -1,9 +1,9 @@
 -- raise_each meets its contract: after t turns the first t numbers are raised, and the column that turn t reads is as it was.
 -- Assumes nothing.
-use mathlib.Core.Path.{◌≡◌, refl, sym, ap, ◌∙◌}
+use mathlib.Core.Path.{◌≡◌, ap, ◌∙◌}
 use Prim.Native.Nat.{ℕ, ◌+◌, ◌*◌, ◌<◌, max}
 use native.Mathlib.Omega.{arith}
-use lib.ListN.{get_or, length-replicate}
+use lib.ListN.{get_or}
 use Rattle.model.specs.Numbers.{kth_least}
 use Rattle.vectors.specs.Rows.{column}
 use Rattle.vectors.proofs.Raised.{raised_start, raise_turn, column_read, columns_read}
@@ -12,41 +12,22 @@ use Rattle.vectors.proofs.raise_each.Goals as goal
 
 pub loop-t-init : goal.loop-t-init
 loop-t-init c =
-    (omega arith, length-replicate {A = ℕ} 1024 0, refl, raised_start _ _ _, rose_none _)
-
-pub slice_bounds-or_kth_of-end : goal.slice_bounds-or_kth_of-end
-slice_bounds-or_kth_of-end c =
-    sym c.loop-t.invariant.1
-
-pub or_kth_of-y-requires : goal.or_kth_of-y-requires
-or_kth_of-y-requires c =
-    let p = c.requires in
-    record { k_in_bounds = (omega arith, omega arith, omega (arith, c.loop-t.invariant.1)); by_index = (λ i h. omega (arith, p.by_index i h)) }
+    (raised_start _ _ _, rose_none _)
 
 pub loop-t-preserved : goal.loop-t-preserved
 loop-t-preserved c =
     let a = c.args in
     let k = c.loop-t in
-    let f = c.raise_number-rose in
+    let f = c.raise_number-changed in
     let y = c.or_kth_of-y in
     let l = a.v.now in
     let es = a.events.now in
     let h : k.t < a.tasks = omega arith in
     let g : ℕ → ℕ = λ t. kth_least a.k (column a.tasks l t es) in
-    let q = ap (kth_least a.k) (columns_read l k.v a.tasks a.e g k.t es h k.invariant.3) in
-    let own = column_read l k.v a.tasks a.e g k.t h k.invariant.3 a.e in
+    let q = ap (kth_least a.k) (columns_read l k.v a.tasks a.e g k.t es h k.invariant.0) in
+    let own = column_read l k.v a.tasks a.e g k.t h k.invariant.0 a.e in
     let x : max (get_or l (a.e * a.tasks + k.t) 0) y.result ≡ max (get_or l (a.e * a.tasks + k.t) 0) (kth_least a.k (column a.tasks l k.t es)) =
     omega (arith, y.ensures) in (
-      omega arith,
-      y.auto.numbers ∙ k.invariant.1,
-      f.auto.v ∙ k.invariant.2,
-      f.ensures.v_after ∙ raise_turn l k.v a.tasks a.e g k.t y.result h k.invariant.3 x,
-      rose_then k.invariant.4 f.ensures.rose,
+      f.ensures.v_after ∙ raise_turn l k.v a.tasks a.e g k.t y.result h k.invariant.0 x,
+      rose_then k.invariant.1 f.ensures.rose,
     )
-
-pub returns : goal.returns
-returns c =
-    let a = c.args in
-    let k = c.loop-t in
-    let e : k.t ≡ a.tasks = omega arith in
-    record { v_after = rw e at k.invariant.3; rose = k.invariant.4 }

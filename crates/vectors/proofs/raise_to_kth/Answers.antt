@@ -22,11 +22,3 @@ returns-then-events-k c =
     let z = kth_few a.k (column a.tasks l t es) (omega arith) in
     omega arith in
     record { v_after = sym few; rose = rose_none l }
-
-pub raise_each-requires : goal.raise_each-requires
-raise_each-requires c =
-    record { tasks_in_bounds = (omega arith, omega arith, omega arith); by_index = c.requires.by_index }
-
-pub returns : goal.returns
-returns c =
-    c.raise_each.ensures

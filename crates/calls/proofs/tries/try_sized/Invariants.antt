@@ -2,5 +2,5 @@
 use Rattle.std.proofs.Common.{◌≤◌}
 use Rattle.calls.proofs.tries.try_sized.Given as goal
 
-abbrev pub invariant-loop-k : goal.invariant-loop-k
-invariant-loop-k l = l.fn.t.wrong ≤ l.next.wrong
+abbrev pub invariant-loop-letters : goal.invariant-loop-letters
+invariant-loop-letters l = l.fn.trial.tally.wrong ≤ l.trial.tally.wrong

@@ -3,4 +3,4 @@ use Rattle.std.proofs.Common.{◌≤◌}
 use Rattle.calls.proofs.writing.try_writing.Given as goal
 
 abbrev pub invariant-loop-way : goal.invariant-loop-way
-invariant-loop-way l = l.fn.t.wrong ≤ l.next.wrong
+invariant-loop-way l = l.fn.trial.tally.wrong ≤ l.trial.tally.wrong

@@ -7,12 +7,12 @@ use Rattle.recording.proofs.reading.preamble.Goals as goal
 
 pub slice_bounds-result-end : goal.slice_bounds-result-end
 slice_bounds-result-end c =
-    let w = within _ _ (sym c.read.ensures ∙ c.in-Accepted.is) in sym (length-take-le _ _ (omega arith))
+    let w = within _ _ (sym c.read.ensures ∙ c.in-Ok.is) in sym (length-take-le _ _ (omega arith))
 
-pub returns-in-Accepted : goal.returns-in-Accepted
-returns-in-Accepted c =
-    the_preamble _ _ (sym c.read.ensures ∙ c.in-Accepted.is)
+pub returns-in-Ok : goal.returns-in-Ok
+returns-in-Ok c =
+    the_preamble _ _ (sym c.read.ensures ∙ c.in-Ok.is)
 
-pub returns-in-Refused : goal.returns-in-Refused
-returns-in-Refused c =
-    no_preamble _ _ (sym c.read.ensures ∙ c.in-Refused.is)
+pub returns-in-Err : goal.returns-in-Err
+returns-in-Err c =
+    no_preamble _ _ (sym c.read.ensures ∙ c.in-Err.is)

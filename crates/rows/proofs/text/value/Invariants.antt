@@ -2,5 +2,5 @@
 use Rattle.std.proofs.Common.{◌≡◌}
 use Rattle.rows.proofs.text.value.Given as goal
 
-abbrev pub invariant-loop-i : goal.invariant-loop-i
-invariant-loop-i l = l.i ≡ 0 → l.n ≡ 0
+abbrev pub invariant-loop-c : goal.invariant-loop-c
+invariant-loop-c g l = l.c-index ≡ 0 → l.n ≡ 0
