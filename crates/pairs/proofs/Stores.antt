@@ -60,10 +60,6 @@ laid_then es fs n s t =
 pub laid_more : {l m o : List ℕ} {at p q : ℕ} (f : ℕ → List Entry) (i : ℕ) → length m ≡ length l → Laid l at (each f i) m p → Laid m p (f i) o q → Laid l at (each f (i + 1)) o q
 laid_more f i n s t = rw (each_more f i) (laid_then (each f i) (f i) n s t)
 
--- the parts from i on below m are empty
-pub laid_skip : {l o : List ℕ} {at p : ℕ} (f : ℕ → List Entry) (i m : ℕ) → each f m ≡ each f i → Laid l at (each f i) o p → Laid l at (each f m) o p
-laid_skip f i m e s = rw e s
-
 -- all n parts are listed
 pub laid_all : {l m : List ℕ} {at p : ℕ} (f : ℕ → List Entry) (i n : ℕ) → i ≡ n → Laid l at (each f i) m p → Laid l at (each f n) m p
 laid_all f i n e s = rw e at s

@@ -1,4 +1,4 @@
--- Step 2: the candidates and k as one look at the records gives them, and a wait raised by them.
+-- Step 2: the candidates as one look at the records gives them, and a wait raised by them.
 -- Assumes nothing.
 use Prim.Native.Nat.{ℕ, zero, suc, ◌+◌, ◌-◌, ◌*◌, ◌≤◌, ◌<◌, zero-le, max}
 use mathlib.Core.Path.{◌≡◌, refl, sym, ap, ap₂, ◌∙◌}
@@ -6,22 +6,22 @@ use mathlib.Core.Bool.{Bool, true, false, cond, not, ◌&&◌}
 use mathlib.Core.List.{List, [], ◌∷◌, ◌++◌, map, append-nil, append_assoc}
 use native.Mathlib.Numerals.{add-one}
 use native.Mathlib.Omega.{arith}
-use lib.ListN.{length, get_or, set, drop, length-set, length-append}
+use lib.ListN.{length, get_or, set, drop}
 use lib.Seq.{set_at, set-set, drop-cons}
-use Rattle.model.specs.Numbers.{tally, filter, each, picked, kth_least}
+use Rattle.model.specs.Numbers.{filter, each, picked, kth_least}
 use Rattle.model.specs.declared.Counts.{Counts}
 use Rattle.model.specs.declared.Event.{Event}
-use Rattle.model.specs.Recording.{start_of, post_of, Recording, size, tasks, event, kind_of, object_of, is_on, is_wait, wait, flag_wait}
+use Rattle.model.specs.Recording.{post_of, Recording, size, tasks, event, kind_of, object_of, is_on, wait, flag_wait}
 use Rattle.model.specs.Vectors.{Vectors, number, ordered}
 use Rattle.model.specs.Passes.{events_on, k_of, needed, serving, candidates, kth_among, served, step_one, raised}
 use Rattle.model.proofs.Tests.{cases, eq-eqb, ne_eqb}
 use Rattle.model.proofs.Least.{kth_zero}
-use Rattle.model.proofs.Picked.{count_picked, picked_few, picked_below}
+use Rattle.model.proofs.Picked.{picked_few, picked_below}
 use Rattle.model.proofs.Climb.{Shaped}
 use Rattle.vectors.specs.Rows.{chunks, column, raised_at, raised_to}
 use Rattle.vectors.proofs.Chunks.{chunks_shaped, column_chunks}
 use Rattle.vectors.proofs.Raised.{raised_to_alike, raised_to_none, chunks_raised}
-use Rattle.passes.specs.Steps.{wait_before, candidate, candidates_on, waited, step_two, raised_event}
+use Rattle.passes.specs.Steps.{candidate, candidates_on, waited, step_two, raised_event}
 
 -- ---- numbers picked one after another
 
@@ -42,24 +42,6 @@ module _ (p : ℕ → Bool) where
 pub pick_one : (l out : List ℕ) (c a : ℕ) → c ≡ length l → c < length out → (set (l ++ drop c out) c a ≡ (l ++ a ∷ []) ++ drop (c + 1) out)
 pick_one l out c a q h = rw (drop-cons out c 0 h, add-one c) (set_at l (get_or out c 0) (drop (suc c) out) a c (sym q) ∙ sym (append_assoc l (a ∷ []) (drop (suc c) out)))
 
--- the numbers below a that pass, c of them, stand in front of what was lent
-abbrev pub Picks : (ℕ → Bool) → List ℕ → ℕ → ℕ → List ℕ → Type 0
-Picks p out₀ a c out = (c ≤ a) × (length out ≡ length out₀) × (c ≡ length (picked p a)) × (out ≡ picked p a ++ drop c out₀)
-
--- a is looked at, and none that passes lies between it and b
-module _ (p : ℕ → Bool) (out₀ out : List ℕ) (a b c : ℕ) (i : Picks p out₀ a c out) (l : a + 1 ≤ b) (q : picked p b ≡ picked p (a + 1)) where
-  pub picks_hit : p a ≡ true → c < length out₀ → (out' : List ℕ) (c' : ℕ) → out' ≡ set out c a → c' ≡ c + 1 → Picks p out₀ b c' out'
-  picks_hit t r out' c' u w =
-      rw (u, w, q ∙ picked_hit p a t) (
-        omega (arith, i.0),
-        length-set out c a ∙ i.1,
-        omega (arith, i.2, length-append (picked p a) (a ∷ [])),
-        ap (λ (k : List ℕ). set k c a) i.3 ∙ pick_one (picked p a) out₀ c a i.2 r,
-      )
-
-  pub picks_miss : p a ≡ false → (out' : List ℕ) (c' : ℕ) → out' ≡ out → c' ≡ c → Picks p out₀ b c' out'
-  picks_miss t out' c' u w = rw (u, w, q ∙ picked_miss p a t) (omega (arith, i.0), i.1, i.2, i.3)
-
 -- ---- as the definitions have it
 
 pub filter-append : (q : ℕ → Bool) (l k : List ℕ) → filter q (l ++ k) ≡ filter q l ++ filter q k
@@ -78,10 +60,6 @@ filter_picked p q (suc n) =
     last false = refl
 
 module _ (l : List Event) (X : Vectors) (e kind x : ℕ) where
-  pub candidates_all : (a : ℕ) → a ≡ length l → picked (candidate l X e kind x) a ≡ candidates_on l X e kind x
-  unfolding candidates_on
-  candidates_all a q = ap (picked (candidate l X e kind x)) q
-
   pub candidates_few : length (candidates_on l X e kind x) ≤ length l
   unfolding candidates_on
   candidates_few = picked_few (candidate l X e kind x) (length l)
@@ -94,10 +72,6 @@ module _ (E : Recording) (X : Vectors) (e : ℕ) where
   candidates_on_lem : candidates_on E.events X e (serving (kind_of E e)) (object_of E e) ≡ candidates E X e
   unfolding candidates_on candidates events_on
   candidates_on_lem = sym (filter_picked (λ a. is_on (serving (kind_of E e)) (object_of E e) (event E a)) (λ s. not (ordered E.events X e s)) (size E))
-
-  pub k_tally : (s : ℕ) → k_of E X e s ≡ suc (tally (wait_before E.events X e s) (size E)) - start_of E.levels s
-  unfolding events_on
-  k_tally s = ap (λ (n : ℕ). suc n - start_of E.levels s) (count_picked (λ a. is_wait s (event E a)) (λ w. ordered E.events X w e) (size E))
 
   module _ (v : Event) (w : v ≡ event E e) where
     -- a wait of either kind, by the kind that serves it and its k

@@ -1,20 +1,19 @@
--- Walks along a chain: from one of its events to the next there is none, so nothing is counted or picked in between. And where the
--- slots of the chains lie. Assumes nothing.
+-- Numbers counted and picked one after another, and where the slots of the chains lie. Assumes nothing.
 use Prim.Native.Nat.{ℕ, zero, suc, ◌+◌, ◌≤◌, ◌<◌}
 use mathlib.Core.Path.{◌≡◌, refl, sym, ap, ◌∙◌}
-use mathlib.Core.Bool.{Bool, true, false, ◌&&◌}
+use mathlib.Core.Bool.{Bool, true, false}
 use mathlib.Core.List.{List, [], ◌∷◌, ◌++◌, append-nil}
 use native.Mathlib.Decide.{dec_le}
 use native.Mathlib.Numerals.{add-one}
 use native.Mathlib.Omega.{arith}
 use lib.ListN.{length}
-use Rattle.model.specs.Numbers.{bit, sum, tally, count, filter, picked}
+use Rattle.model.specs.Numbers.{bit, sum, tally, count, filter}
 use Rattle.model.proofs.Counting.{count_append}
 use Rattle.model.specs.Recording.{signal, wait, post}
 use Rattle.model.proofs.Tests.{cases, bit_true, bit_false, lt-ltb}
-use Rattle.events.specs.Chains.{Nearest, slots, slot_of}
+use Rattle.events.specs.Chains.{slots, slot_of}
 use Rattle.events.proofs.Laws.{tally_next}
-use Rattle.passes.proofs.Waits.{filter-append, picked_miss}
+use Rattle.passes.proofs.Waits.{filter-append}
 
 -- what each number from m on leaves as it is
 leap : {A : Type 0} (f : ℕ → A) (m b : ℕ) → m ≤ b → ((i : ℕ) → m ≤ i → i < b → f (i + 1) ≡ f i) → f b ≡ f m
@@ -32,22 +31,6 @@ tally_start p = refl
 -- numbers that fail are not counted
 pub tally_skip : (p : ℕ → Bool) (m b : ℕ) → m ≤ b → ((i : ℕ) → m ≤ i → i < b → p i ≡ false) → tally p b ≡ tally p m
 tally_skip p m b h e = leap (tally p) m b h (λ i x y. omega (arith, tally_next p i, ap bit (e i x y)))
-
-module _ {p : ℕ → Bool} {n m b : ℕ} (f : Nearest p n m b) where
-  -- b is the nearest from itself on
-  pub arrived : Nearest p n b b
-  arrived = record { low = omega arith; high = f.high; passed = λ i x y. absurd (omega arith); hit = f.hit }
-
-  -- neither counted nor picked by a test that comes first, behind which another stands
-  module _ (q : ℕ → Bool) where
-    none : (i : ℕ) → m ≤ i → i < b → (p i && q i) ≡ false
-    none i x y = rw (f.passed i x y)
-
-    pub tally_leap : tally (λ i. p i && q i) b ≡ tally (λ i. p i && q i) m
-    tally_leap = tally_skip (λ i. p i && q i) m b f.low none
-
-    pub picked_leap : picked (λ i. p i && q i) b ≡ picked (λ i. p i && q i) m
-    picked_leap = leap (picked (λ i. p i && q i)) m b f.low (λ i x y. picked_miss (λ i. p i && q i) i (none i x y))
 
 -- ---- one more
 

@@ -4,7 +4,7 @@ use Rattle.std.specs.Prelude.{ℕ, Bool, not, ◌&&◌, List, length, set}
 use Rattle.model.specs.declared.Counts.{Counts}
 use Rattle.model.specs.declared.Event.{Event}
 use Rattle.model.specs.Numbers.{picked, largest}
-use Rattle.model.specs.Recording.{Recording, tasks, event_in, is_on, is_wait}
+use Rattle.model.specs.Recording.{Recording, tasks, event_in, is_on}
 use Rattle.model.specs.Vectors.{Vectors, position, number, ordered}
 use Rattle.model.specs.Passes.{kth_among, served, raised}
 use Rattle.vectors.specs.Rows.{raised_to, own_row}
@@ -16,10 +16,6 @@ first_row c l e = own_row c.tasks (event_in l e).task (position l e)
 -- e has taken the largest, number by number, of its own vector and of those of these events
 unfoldable pub taken : Counts → Vectors → List ℕ → ℕ → Vectors
 taken c X from e = raised_to c.tasks X e (λ t. largest (λ s. number X s t) from)
-
--- a wait w on s that is ordered before e
-abbrev pub wait_before : List Event → Vectors → ℕ → ℕ → ℕ → Bool
-wait_before l X e s w = is_wait s (event_in l w) && ordered l X w e
 
 -- an event a of this kind on x that e is not ordered before
 abbrev pub candidate : List Event → Vectors → ℕ → ℕ → ℕ → ℕ → Bool
