@@ -10,7 +10,7 @@ ghost use Rattle.model.specs.File.{events_of, recording_by};
 ghost use Rattle.model.specs.Vectors.{flat, start};
 ghost use Rattle.model.specs.Passes.{step_one, k_of, pass, run};
 ghost use Rattle.model.specs.Reading.{most_semaphores, most_events};
-ghost use Rattle.vectors.specs.Rows.{Rose};
+ghost use Rattle.vectors.specs.Rows.{Rose, Zeros};
 ghost use Rattle.events.specs.Kept.{source_of, Sources};
 ghost use Rattle.events.specs.Chains.{slots, slot_of};
 ghost use Rattle.passes.specs.Lent.{Becomes, Fitting, Numbered, Records, Inside, raised_found};
@@ -152,8 +152,7 @@ impl Lookups<'_> {
         ensures becomes { vectors_over self.now v.new ≡ waited self.now.counts (events_of self.now.records.now) (vectors_over self.now v.old) e kind x k }
         ensures rose { Rose v.old v.new result }
     {
-        // A buffer and a count: an ArrayVec, tried, makes a first pass 1 to 2 % slower, where README's row with 200 cells meets document 02's aim of
-        // 0.7 just so.
+        // A buffer and a count: an ArrayVec, tried, makes a first pass 1 to 2 % slower.
         let mut found = [0u16; MOST_EVENTS];
         let c = self.candidates(v, e, kind, x, &mut found);
         let tasks = self.counts.tasks as usize;
@@ -253,14 +252,15 @@ impl Lookups<'_> {
         changed
     }
 
-    // Writes the starting vector of event e from place `from` on.
+    // Writes the starting vector of event e from place `from` on, where there are zeros: its own task's number is another.
     fn start_event(&self, e: usize, from: usize, v: &mut [u16])
-        requires { Has self.now e × (from + self.now.counts.tasks ≤ length v.old) }
-        ensures { v.new ≡ sets v.old from (first_row self.now.counts (events_of self.now.records.now) e) }
+        requires e_bound { Has self.now e × (from + self.now.counts.tasks ≤ length v.old) }
+        requires zeros { Zeros from v.old }
+        ensures v_after { v.new ≡ sets v.old from (first_row self.now.counts (events_of self.now.records.now) e) }
+        ensures zeros_left { Zeros (from + self.now.counts.tasks) v.new }
     {
         let own = events::event_at(self.records, e);
-        let tasks = self.counts.tasks as usize;
-        vectors::fill_row(v, from, tasks, own.task as usize, self.positions[e]);
+        v[from + own.task as usize] = self.positions[e];
     }
 
     // Writes the starting vectors.
@@ -270,6 +270,7 @@ impl Lookups<'_> {
     {
         let n = self.records.len() / 4;
         let tasks = self.counts.tasks as usize;
+        v.fill(0);
         let mut from = 0;
         for e in 0..n {
             self.start_event(e, from, v);

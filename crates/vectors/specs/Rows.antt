@@ -1,6 +1,6 @@
 -- Vectors in one flat list of work numbers, event by event: the rows of the list, and a row raised.
 -- Assumes nothing.
-use Rattle.std.specs.Prelude.{ℕ, zero, suc, ◌+◌, ◌*◌, ◌≤◌, max, ◌≡◌, Bool, cond, not, List, [], ◌∷◌, map, eqb, length, get_or, take, drop, set}
+use Rattle.std.specs.Prelude.{ℕ, zero, suc, ◌+◌, ◌-◌, ◌*◌, ◌≤◌, max, ◌≡◌, Bool, cond, not, List, [], ◌∷◌, map, eqb, length, get_or, take, drop, set, replicate}
 use Rattle.model.specs.Numbers.{list_of}
 use Rattle.model.specs.Vectors.{Vectors, number}
 use Rattle.model.specs.Passes.{same_row}
@@ -26,6 +26,10 @@ column m l t es = map (λ e. get_or l (e * m + t) 0) es
 -- m numbers: x for task own, else 0
 unfoldable pub own_row : ℕ → ℕ → ℕ → List ℕ
 own_row m own x = list_of (λ t. cond (eqb t own) x 0) m
+
+-- the numbers from place `at` on are 0
+abbrev pub Zeros : ℕ → List ℕ → Type 0
+Zeros at v = drop at v ≡ replicate (length v - at) 0
 
 -- from o to c no number falls, and r says whether one rose
 pub record Rose (o c : List ℕ) (r : Bool) : Type 0 where

@@ -155,14 +155,3 @@ pub fn raise_to_kth(v: &mut [u16], e: usize, tasks: usize, events: &[u16], k: u1
     }
     raise_each(v, e, tasks, events, k)
 }
-
-// Writes a vector from place `at` on: x for task `own`, else 0.
-pub fn fill_row(v: &mut [u16], at: usize, tasks: usize, own: usize, x: u16)
-    requires { at + tasks ≤ length v.old }
-    ensures { v.new ≡ sets v.old at (own_row tasks own x) }
-{
-    v[at..at + tasks].fill(0);
-    if own < tasks {
-        v[at + own] = x;
-    }
-}
