@@ -3,7 +3,8 @@
 
 ghost use Rattle.std.specs.Prelude.{◌≡◌, [], ◌∷◌, ◌+◌, ◌*◌, ◌≤◌, ◌<◌, length};
 ghost use Rattle.std.proofs.lemmas.List.Edits.{sets};
-ghost use Rattle.model.specs.File.{recording_by};
+ghost use Rattle.model.specs.Recording.{event_in};
+ghost use Rattle.model.specs.File.{recording_by, events_of};
 ghost use Rattle.model.specs.Pairs.{conflict, race_pair, mark, pair_at, cell_entries, entries_in, entries};
 ghost use Rattle.model.specs.Question.{relation_by};
 ghost use Rattle.model.specs.Reading.{most_cells, most_tasks};
@@ -60,12 +61,11 @@ pub struct NoRoom {
 }
 
 impl PairVectors<'_, '_> {
-    // Whether a and b are a race pair by the safe vectors.
-    fn race_pair(&self, a: usize, b: usize) -> bool
-        requires { Numbered self.now.records.now a × Numbered self.now.records.now b }
+    // Whether a, which is the event v, and b are a race pair by the safe vectors.
+    fn race_pair(&self, v: Event, a: usize, b: usize) -> bool
+        requires { Numbered self.now.records.now a × Numbered self.now.records.now b × (v ≡ event_in (events_of self.now.records.now) a) }
         ensures { result ≡ race_pair (recording_by self.now.records.now self.now.counts []) (vectors_in self.now.records.now self.now.counts self.now.safe.now) a b }
     {
-        let v = events::event_at(self.records, a);
         let w = events::event_at(self.records, b);
         if !conflict(v, w) {
             return false;
@@ -74,12 +74,14 @@ impl PairVectors<'_, '_> {
         safe.unordered(a, b)
     }
 
-    // Lists a and b at place p, where they are a race pair: their entry is written where it has room. Answers the place after it.
-    fn list_pair(&self, a: usize, b: usize, out: &mut [u16], p: usize) -> usize
-        requires { Numbered self.now.records.now a × Numbered self.now.records.now b × (p ≤ 3 * far) }
+    // Lists a, which is the event v, and b at place p, where they are a race pair: their entry is written where it has room. Answers
+    // the place after it.
+    fn list_pair(&self, v: Event, a: usize, b: usize, out: &mut [u16], p: usize) -> usize
+        requires numbered { Numbered self.now.records.now a × Numbered self.now.records.now b × (v ≡ event_in (events_of self.now.records.now) a) }
+        requires room { p ≤ 3 * far }
         ensures { Laid out.old p (by pair_at self.now a b) out.new result }
     {
-        if !self.race_pair(a, b) {
+        if !self.race_pair(v, a, b) {
             return p;
         }
         if p + 3 <= out.len() {
@@ -144,14 +146,15 @@ impl Listing<'_, '_, '_> {
         requires { InChain self.now.vectors.records.now self.now.order.now self.now.vectors.counts.cells i × (p ≤ 2 * far) }
         ensures { Laid out.old p (by row_of self.now.vectors self.now.order.now i) out.new result }
     {
-        // A copy, since what lies behind `self` would be read again for each pair.
+        // A copy, and the event itself, since what lies behind `self` would be read again for each pair.
         let vectors = self.vectors;
         let order = self.order;
         let a = events::at_place(order, i);
+        let v = events::event_at(vectors.records, a);
         let mut next = p;
         for j in Linked::from(self.chain, i, order.len()) {
             let b = events::at_place(order, j);
-            next = vectors.list_pair(a, b, out, next);
+            next = vectors.list_pair(v, a, b, out, next);
         }
         next
     }

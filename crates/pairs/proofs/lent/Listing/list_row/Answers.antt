@@ -41,7 +41,7 @@ module _ (c : After-at_place-a) where
 
 pub from-j-items-requires-clause-up : goal.from-j-items-requires-clause-up
 from-j-items-requires-clause-up c =
-    all_rising _ _ (on_cell c) (near c) _ (first c).hit
+    let start = (goal.at.from-j-items-requires-clause-up c).After-at_place-a in all_rising _ _ (on_cell start) (near start) _ (first start).hit
 
 pub loop-j-init : goal.loop-j-init
 unfolding flat_map
@@ -63,6 +63,10 @@ pub at_place-b-requires : goal.at_place-b-requires
 at_place-b-requires c =
     (next_one (goal.at.at_place-b-requires c).In-Some).1
 
+pub event_at-v-requires : goal.event_at-v-requires
+event_at-v-requires c =
+    omega (arith, c.at_place-a.ensures, c.args.self.now.linked.along.numbered c.args.i c.requires.0.placed)
+
 pub list_pair-next-requires : goal.list_pair-next-requires
 list_pair-next-requires c =
     let s = c.args.self.now in
@@ -70,7 +74,10 @@ list_pair-next-requires c =
     let order = s.linked.along in
     let n = next_one (goal.at.list_pair-next-requires c).In-Some in
     let few = flat_most (by pair_in s.vectors s.order.now c.args.i) 1 (behind_most _ _ _ s.order.now c.args.i) k.yielded in
-    (omega (arith, c.at_place-a.ensures, order.numbered c.args.i c.requires.0.placed), omega (arith, c.at_place-b.ensures, order.numbered c.in-Some.j n.1), omega (arith, k.invariant.next, few, n.2, order.few, c.requires.1))
+    record {
+      numbered = (omega (arith, c.at_place-a.ensures, order.numbered c.args.i c.requires.0.placed), omega (arith, c.at_place-b.ensures, order.numbered c.in-Some.j n.1), c.event_at-v.ensures);
+      room = omega (arith, k.invariant.next, few, n.2, order.few, c.requires.1);
+    }
 
 pub loop-j-preserved : goal.loop-j-preserved
 loop-j-preserved c =

@@ -14,7 +14,7 @@ use Rattle.pairs.proofs.lent.PairVectors.race_pair.Goals.{After-conflict}
 
 -- the test of the conflict, at this place
 tested : (t : After-conflict) → let E = recording_by t.args.self.now.records.now t.args.self.now.counts [] in conflict (event E t.args.a) (event E t.args.b) ≡ t.conflict.result
-tested t = sym (t.conflict.ensures ∙ ap₂ conflict t.event_at-v.ensures t.event_at-w.ensures)
+tested t = sym (t.conflict.ensures ∙ ap₂ conflict t.requires.2 t.event_at-w.ensures)
 
 pub returns-then-not-conflict : goal.returns-then-not-conflict
 returns-then-not-conflict c =
