@@ -251,19 +251,17 @@ pub fn last_event(part: &[u8], task: u16) -> Look
     ensures last_value { result.last ≡ last_event (events_of part.now) task }
     ensures read_value { result.read ≡ records_read (events_of part.now) task }
 {
-    let whole = part.len() / 4;
-    for e in (0..whole).rev() {
+    let mut read = 0;
+    for e in (0..part.len() / 4).rev() {
+        read += 1;
         if is_of_task(part, e, task) {
             return Look {
                 last: Some(e),
-                read: whole - e,
+                read,
             };
         }
     }
-    Look {
-        last: None,
-        read: whole,
-    }
+    Look { last: None, read }
 }
 
 // What is kept of each event stands in arrays with a place for as many events as a recording can have: the library takes no
