@@ -2,7 +2,7 @@
 -- Assumes nothing.
 use mathlib.Core.Path.{◌≡◌, refl, sym, ap, ◌∙◌}
 use Rattle.std.specs.Prelude.{Ok, Err, is_some}
-use mathlib.Core.Bool.{Bool, true, ◌&&◌}
+use mathlib.Core.Bool.{Bool, true, false, ◌&&◌}
 use mathlib.Core.List.{List}
 use Prim.Native.Nat.{ℕ}
 use native.Mathlib.Omega.{arith}
@@ -22,7 +22,7 @@ use Rattle.work.proofs.Accepted.{passed}
 use Rattle.stretches.specs.declared.Stretch.{Stretch}
 use Rattle.stretches.specs.Stretches.{before, lead_of, is_stretch, two_stretches, stretch_check, comparing_check, compared_of, work_after_comparing}
 use Rattle.stretches.specs.AllEvents.{ByEnds}
-use Rattle.stretches.specs.Lent.{ends_ordered, lead_by_ends}
+use Rattle.stretches.specs.Lent.{ends_ordered, lead_by_ends, ComparedAs}
 use Rattle.stretches.proofs.Events.{has_position}
 use Rattle.stretches.proofs.Ends.{both_ends}
 
@@ -68,3 +68,12 @@ pub of_file : (f : List ℕ) (h : Trailer) → reading_of f ≡ Ok h → (E : Re
     → stretch_check E r s w ≡ comparing_check f r s w
 unfolding comparing_check
 of_file f h q E same r s w = rw (passed f h q, same) refl
+
+-- no two stretches: 17, and the work numbers are left as they were
+pub refused_stretch : (f : List ℕ) (h : Trailer) → reading_of f ≡ Ok h → (E : Recording) → E ≡ recording_of f → (r s : Stretch) (b : ℕ) (w : List ℕ)
+    → two_stretches E r s ≡ false → ComparedAs f r s b w (Err Refusal.Stretch) w
+unfolding compared_of work_after_comparing stretch_check
+refused_stretch f h q E same r s b w p =
+    let k : stretch_check E r s w ≡ Err Refusal.Stretch = rw p refl in
+    let j : comparing_check f r s w ≡ Err Refusal.Stretch = sym (of_file f h q E same r s w) ∙ k in
+    record { answer = rw j refl; work = rw j refl }
