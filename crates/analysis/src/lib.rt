@@ -50,6 +50,9 @@ fn analyse_read(
         return analyse_none(budget);
     }
     let parts = Parts::of(file, trailer);
+    if !work::work_fits(parts.records, parts.counts, work) {
+        return Err(Refusal::Work);
+    }
     let positions = events::positions(parts.records);
     let ready = ReadyEvents {
         records: parts.records,
@@ -57,9 +60,6 @@ fn analyse_read(
         levels: parts.levels,
         positions: &positions,
     };
-    if !work::work_fits(ready.records, ready.counts, work) {
-        return Err(Refusal::Work);
-    }
     let made = ready.fill(budget, work);
     match ready.list_pairs(work, ENTRY, list) {
         Ok(pairs) => Ok(Analysis {

@@ -18,6 +18,10 @@ the-ready : (t : After-of-parts) → Ready t.of-parts.result.records.now t.of-pa
 the-ready t =
     let p = t.of-parts.ensures in parts_ready _ _ t.requires _ p.records_value _ p.counts_value _ p.levels_value
 
+pub work_fits-requires : goal.work_fits-requires
+work_fits-requires c =
+    the-ready (goal.at.work_fits-requires c).After-of-parts
+
 pub positions-positions-requires : goal.positions-positions-requires
 positions-positions-requires c =
     let r = (the-ready (goal.at.positions-positions-requires c).After-of-parts).records in omega (arith, r.whole, r.few)
