@@ -1,10 +1,11 @@
 // A second analyser, for tests: what documents 01 and 02 ask, by another method. One reading fills
 // a state, a wait's signal is found by counting, the k-th least and the list are sorted by
 // counting, the look for a last event goes forward; in the recorded run a flag is one more event, between
-// its posts and its waits, and what the run puts before an event is marked going back from it; of two
-// stretches each event is held against each. It is proved safe and to end, with one plain fact of each
-// call: its refusal's number is one of the table, or for a look, how many records it read at most. That
-// the numbers are right is not proved: the trial compares them with the library's.
+// its posts and its waits, and what the run puts before an event is marked going back from it; the events of
+// two recordings held together are looked up by task and position; of two stretches each event is held
+// against each. It is proved safe and to end, with one plain fact of each call: its refusal's number is one
+// of the table, or for a look, how many records it read at most. That the numbers are right is not proved:
+// the trial compares them with the library's.
 #![tactic(auto)]
 
 ghost use Rattle.std.specs.Prelude.{◌≡◌, ◌/◌, ◌≤◌, length};
@@ -19,6 +20,7 @@ mod reverse;
 mod scan;
 mod state;
 mod stretches;
+mod twin;
 mod vectors;
 
 use file::Recording;
