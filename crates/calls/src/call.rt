@@ -124,8 +124,7 @@ pub(crate) fn ours(
             together::analyse_both(one, two, work, more, list).map(joint)
         }
         Call::Turned { one, two } => {
-            let told = together::analyse_both(one, two, work, more, list);
-            return turned(told.map(joint).map_err(fault));
+            return turned(together::analyse_both(one, two, work, more, list));
         }
         Call::Write { parts, counts } => our_write(parts, counts, out).map(Answer::Length),
         Call::Compare {
@@ -145,7 +144,7 @@ pub(crate) fn theirs(
     list: &mut [u16],
     out: &mut [u8],
 ) -> Told {
-    match call {
+    let answer = match call {
         Call::Analyse { file, budget } => {
             second::analyse(file, budget, work, list).map(Answer::Analysed)
         }
@@ -161,8 +160,7 @@ pub(crate) fn theirs(
             second::together(one, two, work, more, list).map(Answer::Pairs)
         }
         Call::Turned { one, two } => {
-            let told = together::analyse_both(two, one, more, work, list);
-            turned(told.map(joint).map_err(fault))
+            return turned(together::analyse_both(two, one, more, work, list));
         }
         Call::Write { parts, counts } => second::write(parts, counts, out).map(Answer::Length),
         Call::Compare {
@@ -171,7 +169,8 @@ pub(crate) fn theirs(
             other,
             budget,
         } => second::compare(file, one, other, budget, work).map(Answer::Leads),
-    }
+    };
+    answer.map_err(Some)
 }
 
 // What one side answers with as many work numbers as are needed.

@@ -16,7 +16,7 @@ pub(crate) struct Outcome {
 // As many work numbers as a call that answers so fills for each file.
 fn filled(call: Call, told: Told) -> (usize, usize) {
     match told {
-        Ok(_) | Err(Fault::List { .. } | Fault::Out | Fault::Unsure) => call.work(),
+        Ok(_) | Err(Some(Fault::List { .. } | Fault::Out | Fault::Unsure)) => call.work(),
         Err(_) => (0, 0),
     }
 }

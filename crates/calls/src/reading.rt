@@ -32,7 +32,7 @@ fn same_reading(ours: Result<model::Trailer, Refusal>, theirs: Result<Reading, F
                 && h.records == r.events as usize
                 && our_counts(h.counts) == counts_of(r)
         }
-        (Err(x), Err(y)) => fault(x) == y,
+        (Err(x), Err(y)) => fault(x) == Some(y),
         _ => false,
     }
 }

@@ -4,7 +4,7 @@ ghost use Rattle.std.specs.Prelude.{◌≤◌};
 
 use crate::call::{Call, WAYS, answer, needed, parts_of};
 use crate::reading::{counts_of, reads_as};
-use crate::told::{Answer, Told};
+use crate::told::{Answer, Refused, Told};
 use crate::tries::{try_way, try_ways};
 use rows::bytes::{at, part_of};
 use rows::records::{Name, name_events};
@@ -89,7 +89,7 @@ pub(crate) fn try_shown(
             trial.count(shows(file, shown, chosen, other), file);
             trial.meet(Met::Written, 1);
         }
-        Err(Fault::Unsure) => trial.meet(Met::Unsure, 1),
+        Err(Some(Fault::Unsure)) => trial.meet(Met::Unsure, 1),
         Err(_) => {}
     }
 }
@@ -123,7 +123,7 @@ fn both_ways(file: &[u8], x: usize, y: usize) -> (Call<'_>, Call<'_>) {
 }
 
 // Why the library writes no recording, with enough memory lent.
-fn refusal_of(call: Call) -> Option<Fault> {
+fn refusal_of(call: Call) -> Option<Refused> {
     answer(call, &mut [0; 1], &mut [0; 4200]).err()
 }
 
@@ -137,7 +137,9 @@ pub fn try_pair(trial: &mut Trial, file: &[u8], x: usize, y: usize)
     try_way(trial, there, need, 0);
     try_way(trial, back, need, 1);
     let refusal = refusal_of(there);
-    let alike = refusal == refusal_of(back) && refusal.is_none() == is_sure(file, x, y);
+    let alike = refusal == refusal_of(back)
+        && refusal != Some(None)
+        && refusal.is_none() == is_sure(file, x, y);
     trial.count(alike, file);
 }
 

@@ -9,16 +9,21 @@ pub enum Answer {
     Pairs(u32),
     Length(usize),
     Leads(Lead),
+    // A relation or a lead by a number that is none of the table's: no answer of the second analyser.
+    Unknown(u8),
 }
 
-pub type Told = Result<Answer, Fault>;
+// Why a call is refused. None where the library tells of it what no fault has: no answer of the second analyser.
+pub type Refused = Option<Fault>;
+
+pub type Told = Result<Answer, Refused>;
 
 // The pairs that are listed, or that the list should have held.
 pub(crate) fn pairs(told: Told) -> u32 {
     match told {
         Ok(Answer::Analysed(done)) => done.pairs,
         Ok(Answer::Pairs(pairs)) => pairs,
-        Err(Fault::List { pairs }) => pairs,
+        Err(Some(Fault::List { pairs })) => pairs,
         _ => 0,
     }
 }
@@ -31,9 +36,12 @@ pub(crate) fn length(told: Told) -> usize {
     }
 }
 
-// What does not hang on which of two files is lent first.
-pub(crate) fn turned(told: Told) -> Told {
-    Ok(Answer::Pairs(pairs(told)))
+// What does not hang on which of two files is lent first: the pairs, also those that any refusal tells.
+pub(crate) fn turned(joint: Result<usize, Refusal>) -> Told {
+    Ok(Answer::Pairs(wide(match joint {
+        Ok(pairs) => pairs,
+        Err(r) => r.pairs(),
+    })))
 }
 
 // ---- the library's answers in the second analyser's form
@@ -48,10 +56,24 @@ fn wide(x: usize) -> u32 {
     u32::try_from(x).unwrap_or(u32::MAX)
 }
 
+// All that the library tells of a refusal is what the fault has of it, and 0 where the fault has none.
+fn tells(r: Refusal, fault: Fault) -> bool {
+    let record = fault.record().unwrap_or(0);
+    let needed = pairs(Err(Some(fault)));
+    let (task, position) = match fault {
+        Fault::Differ { task, position } => (task, position),
+        _ => (0, 0),
+    };
+    r.record() == record as usize
+        && r.task() == task
+        && r.position() == position
+        && r.pairs() == needed as usize
+}
+
 // A refusal, by what the library tells of it: by its numbers, so that these are compared too.
-pub(crate) fn fault(r: Refusal) -> Fault {
+pub(crate) fn fault(r: Refusal) -> Refused {
     let record = short(r.record());
-    match r.number() {
+    let fault = match r.number() {
         1 => Fault::Short,
         2 => Fault::Edition,
         3 => Fault::Extent,
@@ -73,8 +95,10 @@ pub(crate) fn fault(r: Refusal) -> Fault {
         },
         15 => Fault::Unsure,
         16 => Fault::Flag { record },
-        _ => Fault::Stretch,
-    }
+        17 => Fault::Stretch,
+        _ => return None,
+    };
+    if tells(r, fault) { Some(fault) } else { None }
 }
 
 pub(crate) fn analysed(a: Analysis) -> Answer {
@@ -90,7 +114,8 @@ pub(crate) fn related(r: model::Relation) -> Answer {
         1 => Relation::First,
         2 => Relation::Second,
         3 => Relation::Open,
-        _ => Relation::Sure,
+        4 => Relation::Sure,
+        n => return Answer::Unknown(n),
     })
 }
 
@@ -102,6 +127,7 @@ pub(crate) fn leads(lead: stretches::Lead) -> Answer {
     Answer::Leads(match lead.number() {
         1 => Lead::First,
         2 => Lead::Second,
-        _ => Lead::Neither,
+        3 => Lead::Neither,
+        n => return Answer::Unknown(n),
     })
 }

@@ -41,7 +41,7 @@ fn meet(trial: &mut Trial, told: Told)
     match told {
         Ok(Answer::Leads(Lead::First | Lead::Second)) => trial.meet(Met::Leading, 1),
         Ok(Answer::Leads(Lead::Neither)) => trial.meet(Met::Neither, 1),
-        Err(Fault::Stretch) => trial.meet(Met::Unfit, 1),
+        Err(Some(Fault::Stretch)) => trial.meet(Met::Unfit, 1),
         _ => {}
     }
 }
@@ -116,7 +116,12 @@ pub fn try_analysing(trial: &mut Trial, file: &[u8], budget: u32)
 
 // `refused NUMBER RECORD TASK POSITION`: what a call answers, 0 for each that is left out.
 fn is_refused(told: Told, s: &[u8]) -> bool {
-    refusal(told.err()) == [value(s, 1), value(s, 2), value(s, 3), value(s, 4)]
+    let fault = match told {
+        Ok(_) => None,
+        Err(None) => return false,
+        Err(fault) => fault,
+    };
+    refusal(fault) == [value(s, 1), value(s, 2), value(s, 3), value(s, 4)]
 }
 
 // A call that answers so is refused as the row says.

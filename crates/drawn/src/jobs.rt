@@ -140,7 +140,7 @@ fn unlisted(one: &[u8], two: &[u8]) -> Told {
 // Two recordings of the same work: accepted so, with all sizes or one of them, and the marks.
 fn try_alike(trial: &mut Trial, one: &[u8], two: &[u8], all: bool, way: u32) {
     let call = Call::Together { one, two };
-    let accepted = matches!(unlisted(one, two), Ok(_) | Err(Fault::List { .. }));
+    let accepted = matches!(unlisted(one, two), Ok(_) | Err(Some(Fault::List { .. })));
     trial.count_both(accepted, one, two);
     if all {
         try_ways(trial, call, WAYS);
@@ -240,7 +240,9 @@ fn try_unlike(trial: &mut Trial, one: &[u8], two: &[u8], way: u32) {
     try_way(trial, there, needed(there), way);
     try_way(trial, back, needed(back), way);
     match unlisted(one, two) {
-        Err(Fault::Differ { position, .. }) if position != 0 => trial.meet(Met::Differing, 1),
+        Err(Some(Fault::Differ { position, .. })) if position != 0 => {
+            trial.meet(Met::Differing, 1);
+        }
         _ => {}
     }
 }

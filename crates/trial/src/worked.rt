@@ -170,7 +170,11 @@ fn shows_as(file: &[u8], chosen: usize, other: usize, s: &[u8]) -> bool {
     let told = answer(call, &mut [0; 1], &mut shown);
     let order = word(s, 0);
     if is_refusal(s) {
-        return told.err().map_or(0, |fault| fault.number()) == value(s, 1);
+        return match told {
+            Ok(_) => value::<u16>(s, 1) == 0,
+            Err(Some(fault)) => fault.number() == value(s, 1),
+            Err(None) => false,
+        };
     }
     let records = recording::records(file);
     let n = (order.len() % 16) as u16;
