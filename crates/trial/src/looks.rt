@@ -1,21 +1,21 @@
 // Looks for a task's last event in a part of the records, with their numbers written by hand.
 use crate::recordings::put_events;
 use calls::looks::try_found;
-use rows::bytes::{Bytes, part_of};
+use rows::bytes::{Bytes, at, part_of};
 use rows::tally::Trial;
-use rows::text::{section, value, word};
+use rows::text::{section, value};
 use second::Look;
 
 // `last TASK FROM TO | EVENTS | found RECORD READ` or `.. | none READ`: in the bytes of the records
-// from one place to another.
+// from one place to another. One space stands behind the bar: the byte after it says which of the two it is.
 pub(crate) fn try_last(trial: &mut Trial, row: &[u8]) {
     let mut bytes = Bytes::<400>::new();
     let head = section(row, 0);
     put_events(&mut bytes, section(row, 1));
     let part = part_of(bytes.all(), value(head, 2), value(head, 3));
     let s = section(row, 2);
-    let look = match word(s, 0).first() {
-        Some(b'f') => Look {
+    let look = match at(s, 1) {
+        b'f' => Look {
             last: Some(value(s, 1)),
             read: value(s, 2),
         },
