@@ -12,12 +12,15 @@ use input::read_full;
 use rows::bytes::part_of;
 use rows::lines::try_rows;
 use rows::tally::Trial;
+use rows::text::{section, word};
 use std::io;
 
-// A row is a group; one of no known kind is told as a difference.
+// A row is a group; one of no known kind is told as a difference, and one without a word before its bar is an empty
+// group.
 fn try_row(trial: &mut Trial, row: &[u8]) {
     match groups::group_in(row) {
         Some(group) => groups::try_group(trial, row, group),
+        None if word(section(row, 0), 0).is_empty() => {}
         None => trial.count(false, row),
     }
 }
