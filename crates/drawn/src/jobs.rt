@@ -211,8 +211,8 @@ fn rename_tasks(file: &mut [u8], start: u16, n: u16, a: u8, b: u8) {
 // The record at a place, of the same task, with another kind and object.
 fn change_record(seed: &mut Seed, file: &mut [u8], i: usize, edition: u16) {
     let record = Record {
-        task: at(file, i),
-        kind: (seed.draw_from(1, kinds_in(edition)) % 256) as u8,
+        task: u16::from(at(file, i)),
+        kind: seed.draw_from(1, kinds_in(edition)),
         object: seed.draw_word(3),
     };
     put_record(file, i, record);

@@ -102,8 +102,8 @@ fn draw_kind(seed: &mut Seed, edition: u16) -> Kind {
 impl Event {
     fn record(self) -> Record {
         Record {
-            task: (self.task % 256) as u8,
-            kind: self.kind as u8,
+            task: self.task,
+            kind: self.kind as u16,
             object: self.object,
         }
     }
@@ -307,8 +307,8 @@ fn damage_some(seed: &mut Seed, s: Shape, file: &mut [u8], all: usize) -> usize
 // Another record, of a kind that may be none.
 fn damage_record(seed: &mut Seed, s: Shape, file: &mut [u8]) {
     let record = Record {
-        task: (seed.draw_word(s.tasks) % 256) as u8,
-        kind: seed.draw(kinds_in(s.edition) as u32 + 3) as u8,
+        task: seed.draw_word(s.tasks),
+        kind: seed.draw_word(kinds_in(s.edition) + 3),
         object: seed.draw_word(6),
     };
     put_record(file, place(s.preamble, seed.draw_word(s.events)), record);

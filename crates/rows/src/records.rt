@@ -33,11 +33,12 @@ pub enum Kind {
     SingleWrite = 10,
 }
 
-// A record as it is written: its kind is a number, as it may be none of the kinds.
+// A record that is to be written: its kind is a number, as it may be none of the kinds. Of a task or a kind past a
+// byte the low byte is written.
 #[derive(Clone, Copy)]
 pub struct Record {
-    pub task: u8,
-    pub kind: u8,
+    pub task: u16,
+    pub kind: u16,
     pub object: u16,
 }
 
@@ -46,7 +47,7 @@ impl Record {
         ensures { length result ≡ 4 }
     {
         let [low, high] = self.object.to_le_bytes();
-        [self.task, self.kind, low, high]
+        [(self.task % 256) as u8, (self.kind % 256) as u8, low, high]
     }
 }
 

@@ -67,8 +67,8 @@ fn access(job: Job, t: Turn) -> Record {
         Kind::Write
     };
     Record {
-        task: task as u8,
-        kind: kind as u8,
+        task,
+        kind: kind as u16,
         object: (cell % 65536) as u16,
     }
 }
