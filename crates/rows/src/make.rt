@@ -3,7 +3,7 @@
 // damaged.
 ghost use Rattle.std.specs.Prelude.{◌≡◌, ◌+◌, ◌%◌, ◌<◌, ◌≤◌, length};
 
-use crate::bytes::{Bytes, at, first};
+use crate::bytes::{Bytes, at, put};
 use crate::records::{Kind, Record, Shape, place, put_preamble, put_record, put_trailer};
 
 // ---- drawing
@@ -45,29 +45,27 @@ impl Seed {
 
 // ---- events
 
-// A task: whether it runs only once it is forked, is forked, is joined, and has a record.
-#[derive(Clone, Copy, Default)]
-struct Task {
-    late: bool,
-    forked: bool,
-    joined: bool,
-    seen: bool,
+// What is noted, by semaphore, by task or by flag: what a wait can take, of the start count and of signals; forked;
+// joined; has a record; runs only once forked; the start counts; how many posts a flag lacks; and the post counts.
+#[derive(Clone, Copy)]
+enum Area {
+    Stock = 0,
+    Forked = 64,
+    Joined = 128,
+    Seen = 192,
+    Late = 256,
+    Starts = 320,
+    Lack = 384,
+    Posts = 448,
 }
 
-// A semaphore's start count and what a wait can take; or a flag's post count and how many posts it lacks.
-#[derive(Clone, Copy, Default)]
-struct Level {
-    first: u8,
-    left: u16,
-}
-
-// How many events there are, and what has happened in them.
+// How many events there are, and what has happened in them. An area has 64 numbers, enough for a recording that
+// reading accepts. Where a row asks for more, a number past them falls into the areas behind, and past the last of
+// these it is lost.
 #[derive(Clone, Copy)]
 struct Life {
     events: u16,
-    tasks: [Task; 64],
-    semaphores: [Level; 64],
-    flags: [Level; 64],
+    noted: [u16; 512],
 }
 
 #[derive(Clone, Copy)]
@@ -110,6 +108,18 @@ impl Event {
 }
 
 impl Life {
+    fn at(&self, area: Area, i: u16) -> u16 {
+        at(&self.noted, area as usize + i as usize)
+    }
+
+    fn put(&mut self, area: Area, i: u16, v: u16) {
+        put(&mut self.noted, area as usize + i as usize, v);
+    }
+
+    fn has(&self, area: Area, i: u16) -> bool {
+        self.at(area, i) != 0
+    }
+
     // Draws an event, which happens where it is allowed.
     fn grow(&mut self, seed: &mut Seed, s: Shape) -> Option<Event> {
         let task = seed.draw_word(s.tasks);
@@ -125,54 +135,35 @@ impl Life {
     }
 
     fn allows(&self, e: Event) -> bool {
-        let task = at(&self.tasks, e.task as usize);
-        let object = e.object as usize;
-        let other = at(&self.tasks, object);
-        if task.joined || (task.late && !task.forked) {
+        let Event { task, kind, object } = e;
+        let other = object != task;
+        let forked = self.has(Area::Forked, object);
+        let late = self.has(Area::Late, task) && !self.has(Area::Forked, task);
+        if late || self.has(Area::Joined, task) {
             return false;
         }
-        match e.kind {
-            Kind::Wait => at(&self.semaphores, object).left != 0,
-            Kind::Fork => e.object != e.task && !other.forked && !other.seen,
-            Kind::Join => e.object != e.task && other.forked && !other.joined,
-            Kind::FlagWait => at(&self.flags, object).left == 0,
+        match kind {
+            Kind::Wait => self.has(Area::Stock, object),
+            Kind::Fork => other && !forked && !self.has(Area::Seen, object),
+            Kind::Join => other && forked && !self.has(Area::Joined, object),
+            Kind::FlagWait => !self.has(Area::Lack, object),
             _ => true,
         }
     }
 
     fn note(&mut self, e: Event) {
-        let object = e.object as usize;
         self.events = self.events.wrapping_add(1);
-        change(&mut self.tasks, e.task as usize, |t| t.seen = true);
+        self.put(Area::Seen, e.task, 1);
+        let stock = self.at(Area::Stock, e.object);
+        let lack = self.at(Area::Lack, e.object);
         match e.kind {
-            Kind::Signal => change(
-                &mut self.semaphores,
-                object,
-                |s| s.left = s.left.wrapping_add(1),
-            ),
-            Kind::Wait => change(
-                &mut self.semaphores,
-                object,
-                |s| s.left = s.left.saturating_sub(1),
-            ),
-            Kind::Fork => change(&mut self.tasks, object, |t| t.forked = true),
-            Kind::Join => change(&mut self.tasks, object, |t| t.joined = true),
-            Kind::Post => change(
-                &mut self.flags,
-                object,
-                |f| f.left = f.left.saturating_sub(1),
-            ),
+            Kind::Signal => self.put(Area::Stock, e.object, stock.wrapping_add(1)),
+            Kind::Wait => self.put(Area::Stock, e.object, stock.saturating_sub(1)),
+            Kind::Fork => self.put(Area::Forked, e.object, 1),
+            Kind::Join => self.put(Area::Joined, e.object, 1),
+            Kind::Post => self.put(Area::Lack, e.object, lack.saturating_sub(1)),
             _ => {}
         }
-    }
-}
-
-// Changes what stands at a place, if anything does.
-fn change<T, F: FnOnce(&mut T) + Drop>(s: &mut [T], i: usize, f: F)
-    requires { F.IsAlwaysCallable f }
-{
-    if let Some(x) = s.get_mut(i) {
-        f(x);
     }
 }
 
@@ -204,24 +195,30 @@ fn draw_post(seed: &mut Seed) -> u8 {
     }
 }
 
-// Draws start counts or post counts, which are what is there of them before the first event.
-fn draw_levels<F: FnMut(&mut Seed) -> u8>(levels: &mut [Level], seed: &mut Seed, mut draw: F)
+// Draws n start counts or post counts, which are what is there of them before the first event.
+fn draw_levels<F: FnMut(&mut Seed) -> u8>(
+    life: &mut Life,
+    seed: &mut Seed,
+    counts: Area,
+    left: Area,
+    n: u16,
+    mut draw: F,
+)
     requires { F.IsAlwaysCallable draw }
 {
-    for level in levels.iter_mut() {
-        let first = draw(seed);
-        *level = Level {
-            first,
-            left: u16::from(first),
-        };
+    for i in 0..n {
+        let level = u16::from(draw(seed));
+        life.put(counts, i, level);
+        life.put(left, i, level);
     }
 }
 
-fn put_levels<const N: usize>(file: &mut Bytes<N>, levels: &[Level])
-    ensures { file.new.length ≤ file.old.length + length levels.now }
+// Puts n start counts or post counts.
+fn put_levels<const N: usize>(file: &mut Bytes<N>, life: &Life, counts: Area, n: u16)
+    ensures { file.new.length ≤ file.old.length + n }
 {
-    for level in levels {
-        file.push(level.first);
+    for i in 0..n {
+        file.push((life.at(counts, i) % 256) as u8);
     }
 }
 
@@ -231,23 +228,26 @@ fn put_levels<const N: usize>(file: &mut Bytes<N>, levels: &[Level])
 fn draw_life(seed: &mut Seed, s: Shape) -> Life {
     let mut life = Life {
         events: 0,
-        tasks: [Task::default(); 64],
-        semaphores: [Level::default(); 64],
-        flags: [Level::default(); 64],
+        noted: [0; 512],
     };
-    for task in first(&mut life.tasks, s.tasks as usize).iter_mut().skip(1) {
-        task.late = seed.draw(5) < 2;
+    for task in 1..s.tasks {
+        let late = seed.draw(5) < 2;
+        life.put(Area::Late, task, u16::from(late));
     }
+    let starts = starts_in(s);
     draw_levels(
-        first(&mut life.semaphores, starts_in(s) as usize),
+        &mut life,
         seed,
+        Area::Starts,
+        Area::Stock,
+        starts,
         draw_start,
     );
-    draw_levels(first(&mut life.flags, s.flags as usize), seed, draw_post);
+    draw_levels(&mut life, seed, Area::Posts, Area::Lack, s.flags, draw_post);
     life
 }
 
-// A recording that reading accepts, of at most the shape's events.
+// A recording of at most the shape's events. Reading accepts it where the shape's counts are those of a recording.
 pub fn make<const N: usize>(seed: &mut Seed, s: Shape) -> Bytes<N>
     ensures { 16 ≤ result.length }
 {
@@ -259,11 +259,8 @@ pub fn make<const N: usize>(seed: &mut Seed, s: Shape) -> Bytes<N>
             file.extend(&event.record().bytes());
         }
     }
-    put_levels(
-        &mut file,
-        first(&mut life.semaphores, starts_in(s) as usize),
-    );
-    put_levels(&mut file, first(&mut life.flags, s.flags as usize));
+    put_levels(&mut file, &life, Area::Starts, starts_in(s));
+    put_levels(&mut file, &life, Area::Posts, s.flags);
     put_trailer(&mut file, s.preamble as u32, life.events as u32, s);
     file
 }

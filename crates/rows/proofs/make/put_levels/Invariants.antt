@@ -2,5 +2,5 @@
 use Rattle.std.proofs.Common.{◌+◌, ◌≤◌}
 use Rattle.rows.proofs.make.put_levels.Given as goal
 
-abbrev pub invariant-loop-level : goal.invariant-loop-level
-invariant-loop-level g l = l.file.length ≤ l.fn.file.length + l.level-index
+abbrev pub invariant-loop-i : goal.invariant-loop-i
+invariant-loop-i g l = l.file.length ≤ l.fn.file.length + l.i
