@@ -1,4 +1,9 @@
 // What a call answers, in one form for all calls and for both sides.
+ghost use Rattle.std.specs.Prelude.{◌≡◌, true, IfSome};
+ghost use Rattle.std.specs.Option.{unwrap_or};
+ghost use Rattle.model.specs.Refusals.{number_of, record_of};
+ghost use Rattle.second.specs.Refusals.{number_of as told, record_of as faulty};
+
 use model::{Analysis, Refusal};
 use second::{Done, Fault, Lead, Relation};
 
@@ -57,7 +62,9 @@ fn wide(x: usize) -> u32 {
 }
 
 // All that the library tells of a refusal is what the fault has of it, and 0 where the fault has none.
-fn tells(r: Refusal, fault: Fault) -> bool {
+fn tells(r: Refusal, fault: Fault) -> bool
+    ensures { result ≡ true → unwrap_or (faulty fault) 0 ≡ record_of r }
+{
     let record = fault.record().unwrap_or(0);
     let needed = pairs(Err(Some(fault)));
     let (task, position) = match fault {
@@ -71,7 +78,10 @@ fn tells(r: Refusal, fault: Fault) -> bool {
 }
 
 // A refusal, by what the library tells of it: by its numbers, so that these are compared too.
-pub(crate) fn fault(r: Refusal) -> Refused {
+pub(crate) fn fault(r: Refusal) -> Refused
+    ensures number { IfSome result (λ f. told f ≡ number_of r) }
+    ensures record { IfSome result (λ f. unwrap_or (faulty f) 0 ≡ record_of r) }
+{
     let record = short(r.record());
     let fault = match r.number() {
         1 => Fault::Short,
