@@ -155,3 +155,30 @@ pub fn raise_to_kth(v: &mut [u16], e: usize, tasks: usize, events: &[u16], k: u1
     }
     raise_each(v, e, tasks, events, k)
 }
+
+// Writes a vector from place `at` on: x for task `own`, else 0.
+pub fn fill_row(v: &mut [u16], at: usize, tasks: usize, own: usize, x: u16)
+    requires { at + tasks ≤ length v.old }
+    ensures { v.new ≡ sets v.old at (own_row tasks own x) }
+{
+    v[at..at + tasks].fill(0);
+    if own < tasks {
+        v[at + own] = x;
+    }
+}
+
+#[cfg(test)]
+mod tests {
+    use super::*;
+
+    // A recording's vectors are started over zeros (`passes`), so no program calls `fill_row`: a row of its own, and one whose task it
+    // does not have.
+    #[test]
+    fn fills_a_row(rt: HostRuntime) {
+        let mut v = [9; 5];
+        fill_row(&mut v, 1, 3, 2, 7);
+        assert_eq!(rt; v, [9, 0, 0, 7, 9]);
+        fill_row(&mut v, 1, 3, 3, 7);
+        assert_eq!(rt; v, [9, 0, 0, 0, 9]);
+    }
+}
